@@ -1,0 +1,4 @@
+pub mod Columns
+pub mod Places
+pub mod Crowds
+pub mod Looking

@@ -1,0 +1,129 @@
+//! Which ticket a step works on: rules 1 and 2.
+ghost use mathlib.Core.Path.{_≡_};
+ghost use mathlib.Core.Bool.{true, false, cond, _&&_};
+ghost use Prim.Native.Nat.{ℕ, suc, _+_, _-_, _*_, _<_, _≤_};
+ghost use lib.ListN.{length};
+ghost use Rattle.std.specs.Of.Vec.{vec-len};
+ghost use Rattle.rules.specs.Lists.{unit};
+ghost use Rattle.rules.specs.Rack.{soft, hard};
+ghost use Rattle.rules.specs.Step.{past, led as leading, walk as walkFrom, lastOf};
+ghost use Rattle.rules.specs.Sound.{Sound, marksIn, bookedIn};
+ghost use Rattle.board.specs.Reading.{rackOf, ticketAt, firstOf, Placed, looks as looksAhead, maskSeen, Passes};
+use crate::look::marks_in;
+use crate::tables::Tables;
+use lists::foremost::foremost;
+use rules::ticket::Ticket;
+use rules::ticket::TicketRanked;
+
+/// Who has marks in a column: how many tickets granted or out, and the place of the soft ticket
+/// with the lowest number.
+#[derive(Clone, Copy)]
+pub(crate) struct Crowd {
+    pub(crate) booked: u32,
+    pub(crate) holder: Option<usize>,
+}
+
+impl Crowd {
+    /// With the ticket at place i, if it has a mark in the column.
+    fn with(self, i: usize, ticket: Ticket, column: u32) -> Crowd
+        requires { ⌜ self .booked ≤ 64 ⌝ }
+        ensures booked { λ r. ⌜ r .booked ≡ self .booked + unit (hard (ticket .phase) && marksIn column ticket) ⌝ }
+        ensures holder { λ r. ⌜ r .holder ≡ cond (soft (ticket .phase) && marksIn column ticket) (firstOf (self .holder) i) (self .holder) ⌝ }
+    {
+        if !marks_in(ticket, column) {
+            return self;
+        }
+        if ticket.phase.is_hard() {
+            return Crowd {
+                booked: self.booked + 1,
+                holder: self.holder,
+            };
+        }
+        if ticket.phase.is_soft() && self.holder.is_none() {
+            return Crowd {
+                booked: self.booked,
+                holder: Some(i),
+            };
+        }
+        self
+    }
+}
+
+pub(crate) fn crowd_in(tickets: &[Ticket], column: u32) -> Crowd
+    requires { ⌜ length (now tickets) ≤ 64 ⌝ }
+    ensures booked { λ r. ⌜ r .booked ≡ bookedIn column (now (tickets .entry)) ⌝ }
+    ensures holder { λ r. ⌜ Placed (λ t. soft (t .phase) && marksIn column t) (now (tickets .entry)) (r .holder) ⌝ }
+{
+    let mut crowd = Crowd {
+        booked: 0,
+        holder: None,
+    };
+    for (i, ticket) in tickets.iter().enumerate() {
+        crowd = crowd.with(i, *ticket, column);
+    }
+    crowd
+}
+
+/// What a step finds ahead of a ticket: the vacant rows of the column, and the place of the ticket
+/// that the step is passed on to, if this one is blocked.
+#[derive(Clone, Copy)]
+pub(crate) struct Look {
+    pub(crate) mask: u16,
+    pub(crate) holder: Option<usize>,
+}
+
+/// The place of the ticket that a step works on, with the vacant rows of the column ahead of it.
+#[derive(Clone, Copy)]
+pub(crate) struct Spot {
+    pub(crate) place: usize,
+    pub(crate) mask: u16,
+}
+
+impl Tables {
+    pub(crate) fn ticket(&self, i: usize) -> Ticket
+        requires { ⌜ i < vec-len (now self .tickets) ⌝ }
+        ensures { λ r. ⌜ r ≡ ticketAt (rackOf (now (self .entry))) i ⌝ }
+    {
+        self.tickets[i]
+    }
+
+    /// Its window would pass the last column.
+    pub(crate) fn is_past(&self, t: Ticket) -> bool
+        ensures { λ r. ⌜ r ≡ past (rackOf (now (self .entry)) .sizes) t ⌝ }
+    {
+        u64::from(t.first) + u64::from(t.request.length) > u64::from(self.columns)
+    }
+
+    fn looks(&self, t: Ticket) -> bool
+        ensures { λ r. ⌜ r ≡ looksAhead (rackOf (now (self .entry))) t ⌝ }
+    {
+        t.phase.is_forward() && t.marks < t.request.length && !self.is_past(t)
+    }
+
+    /// One look at the column ahead of a ticket.
+    fn look(&self, t: Ticket) -> Look
+        requires { ⌜ Sound (rackOf (now self)) ⌝ }
+        ensures mask { λ r. ⌜ r .mask ≡ maskSeen (rackOf (now (self .entry))) t ⌝ }
+        ensures passes { λ r. ⌜ Passes (rackOf (now (self .entry))) t (r .holder) ⌝ }
+    {
+        if !self.looks(t) {
+            return Look {
+                mask: 0,
+                holder: None,
+            };
+        }
+        let column = t.first + t.marks;
+        let mask = self.vacancies(column);
+        if mask != 0 {
+            return Look { mask, holder: None };
+        }
+        let crowd = crowd_in(&self.tickets, column);
+        if crowd.booked >= self.rows {
+            return Look { mask, holder: None };
+        }
+        Look {
+            mask,
+            holder: crowd.holder,
+        }
+    }
+}

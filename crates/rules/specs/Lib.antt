@@ -1,0 +1,15 @@
+pub mod Words
+pub mod Lists
+pub mod Rack
+pub mod Step
+pub mod Choosers
+pub mod Calls
+pub mod History
+pub mod Ledger
+pub mod Accounts
+pub mod Order
+pub mod Sound
+pub mod Laws
+pub mod Play
+pub mod Cases
+pub mod Wrongs
