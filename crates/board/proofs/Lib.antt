@@ -2,3 +2,9 @@ pub mod Columns
 pub mod Places
 pub mod Crowds
 pub mod Looking
+pub mod Walking
+pub mod Leading
+pub mod Acting
+pub mod Replacing
+pub mod Picking
+pub mod Deeds

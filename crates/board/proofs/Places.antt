@@ -64,3 +64,8 @@ pub edit-gone : (lo hi : ℕ) (f : Ticket → List Ticket) (ts : List Ticket) (i
 edit-gone lo hi f ts i t r h e k =
     subst (λ (u : Ticket). f u ≡ [] → edit (named (u .number)) f ts ≡ take i ts ++ drop (i + 1) ts) (sym e)
     (λ q. edit-place lo hi f ts i r h ∙ ap (λ (us : List Ticket). take i ts ++ (us ++ drop (i + 1) ts)) q) k
+
+pub in-at : (ts : List Ticket) (t : Ticket) → In t ts → (i : ℕ) × (i < length ts) × (getD ts i noTicket ≡ t)
+in-at [] t h = absurd h
+in-at (u ∷ ts) t (inl e) = (0, omega arith, e)
+in-at (u ∷ ts) t (inr h) = let k = in-at ts t h in (suc (k .0), (let l = k .1 in omega arith), k .2)

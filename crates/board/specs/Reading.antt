@@ -12,7 +12,7 @@ use Rattle.rules.specs.declared.ticket.Ticket.{Ticket}
 use Rattle.rules.specs.declared.ticket.Phase.the-variants.{Forward}
 use Rattle.rules.specs.Lists.{find}
 use Rattle.rules.specs.Rack.{Rack, cells}
-use Rattle.rules.specs.Step.{isForward, ahead, past, blocked, passedTo}
+use Rattle.rules.specs.Step.{isForward, ahead, past, blocked, passedTo, walk, lastOf}
 use Rattle.rules.specs.Choosers.{maskOf}
 use Rattle.board.specs.declared.tables.Tables.{Tables}
 
@@ -57,3 +57,7 @@ maskSeen r t = cond (looks r t) (maskOf (cells r (ahead t))) 0
 abbrev pub Passes : Rack → Ticket → Option ℕ → Type 0
 Passes r t None = blocked r t ≡ false
 Passes r t (Some i) = (i < length (r .tickets)) × (blocked r t ≡ true) × (ticketAt r i ≡ passedTo r t)
+
+-- the ticket at which a walk of so many turns ends
+abbrev pub walkEnd : ℕ → Rack → Ticket → Ticket
+walkEnd n r t = lastOf t (walk n r t)

@@ -6,12 +6,15 @@ ghost use lib.ListN.{length};
 ghost use Rattle.std.specs.Of.Vec.{vec-len};
 ghost use Rattle.rules.specs.Lists.{unit};
 ghost use Rattle.rules.specs.Rack.{soft, hard};
-ghost use Rattle.rules.specs.Step.{past, led as leading, walk as walkFrom, lastOf};
+ghost use Rattle.rules.specs.Step.{past, led as leading};
 ghost use Rattle.rules.specs.Sound.{Sound, marksIn, bookedIn};
-ghost use Rattle.board.specs.Reading.{rackOf, ticketAt, firstOf, Placed, looks as looksAhead, maskSeen, Passes};
+ghost use Rattle.board.specs.Due.{Due};
+ghost use Rattle.board.specs.Reading.{rackOf, ticketAt, firstOf, Placed, looks as looksAhead, maskSeen, Passes, walkEnd};
 use crate::look::marks_in;
+use crate::look::place_of;
 use crate::tables::Tables;
 use lists::foremost::foremost;
+use rules::refusal::Refusal;
 use rules::ticket::Ticket;
 use rules::ticket::TicketRanked;
 
@@ -125,5 +128,59 @@ impl Tables {
             mask,
             holder: crowd.holder,
         }
+    }
+}
+
+impl Tables {
+    /// Rule 2: from a ticket on, until one is not blocked.
+    fn walk(&self, from: usize) -> Spot
+        requires sound { ⌜ Sound (rackOf (now self)) ⌝ }
+        requires within { ⌜ from < vec-len (now self .tickets) ⌝ }
+        ensures within { λ r. ⌜ r .place < vec-len (now (self .entry) .tickets) ⌝ }
+        ensures is { λ r. ⌜ ticketAt (rackOf (now (self .entry))) (r .place) ≡ walkEnd (suc (now (self .entry) .columns)) (rackOf (now (self .entry))) (ticketAt (rackOf (now (self .entry))) from) ⌝ }
+        ensures mask { λ r. ⌜ r .mask ≡ maskSeen (rackOf (now (self .entry))) (ticketAt (rackOf (now (self .entry))) (r .place)) ⌝ }
+    {
+        let mut place = from;
+        for _turn in 0..self.columns + 1 {
+            let look = self.look(self.ticket(place));
+            match look.holder {
+                Some(next) => place = next,
+                None => return Spot { place, mask: look.mask },
+            }
+        }
+        let look = self.look(self.ticket(place));
+        Spot { place, mask: look.mask }
+    }
+}
+
+impl Tables {
+    /// Rule 1: the place of the oldest soft ticket, if the one at this place is more than the lead
+    /// ahead of it; otherwise this place.
+    fn led(&self, i: usize) -> usize
+        requires sound { ⌜ Sound (rackOf (now self)) ⌝ }
+        requires within { ⌜ i < vec-len (now self .tickets) ⌝ }
+        requires is_soft { ⌜ soft (ticketAt (rackOf (now self)) i .phase) ≡ true ⌝ }
+        ensures within { λ r. ⌜ r < vec-len (now (self .entry) .tickets) ⌝ }
+        ensures is { λ r. ⌜ ticketAt (rackOf (now (self .entry))) r ≡ leading (rackOf (now (self .entry))) (ticketAt (rackOf (now (self .entry))) i) ⌝ }
+    {
+        let Some(oldest) = foremost(&self.tickets) else {
+            return i;
+        };
+        let lead = self.ticket(i).number.saturating_sub(self.ticket(oldest).number);
+        if lead > self.lead { oldest } else { i }
+    }
+
+    /// The ticket that a step naming this number works on, or why there is none.
+    pub(crate) fn due(&self, number: u32) -> Result<Spot, Refusal>
+        requires { ⌜ Sound (rackOf (now self)) ⌝ }
+        ensures { λ r. ⌜ Due (rackOf (now (self .entry))) number r ⌝ }
+    {
+        let Some(i) = place_of(&self.tickets, number) else {
+            return Err(Refusal::Unknown);
+        };
+        if !self.ticket(i).phase.is_soft() {
+            return Err(Refusal::Stage);
+        }
+        Ok(self.walk(self.led(i)))
     }
 }
