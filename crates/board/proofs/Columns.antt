@@ -12,7 +12,7 @@ use Rattle.std.proofs.shelf.Lists.{at-drop-more, at-drop-all}
 use Rattle.std.proofs.shelf.Ways.{tells}
 use Rattle.rules.specs.declared.slot.Slot.{Slot}
 use Rattle.rules.specs.declared.slot.Slot.the-variants.{Vacant, Marked}
-use Rattle.rules.specs.Lists.{unit}
+use Rattle.rules.specs.Lists.{unit, countOf}
 use Rattle.rules.specs.Rack.{isVacant, holds, rowOf}
 use Rattle.rules.specs.Choosers.{maskOf}
 
@@ -64,3 +64,15 @@ row-end n ss i h = at-drop-all (λ l. shifted i (rowOf n l)) ss i h
 
 pub row-start : (n : ℕ) → shifted 0 n ≡ n
 row-start n = grind (arith, tells)
+
+-- how many cells before i pass, and how many of those left
+pub count-more : (p : Slot → Bool) (ss : List Slot) (i b n : ℕ) → i < length ss → n ≡ unit (p (getD ss i Vacant))
+    → (b + countOf p (drop i ss) ≡ countOf p ss) × (b ≤ i) → (b + n + countOf p (drop (i + 1) ss) ≡ countOf p ss) × (b + n ≤ i + 1)
+count-more p ss i b n h e k =
+    let d = at-drop-more (countOf p) ss i Vacant h in
+    let u = unit-most (p (getD ss i Vacant)) in
+    let a = k .0 in let l = k .1 in
+    (omega arith, omega arith)
+
+pub count-all : (p : Slot → Bool) (ss : List Slot) (i b : ℕ) → length ss ≤ i → b + countOf p (drop i ss) ≡ countOf p ss → b ≡ countOf p ss
+count-all p ss i b h e = let d = at-drop-all (countOf p) ss i h in omega arith

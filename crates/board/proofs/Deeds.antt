@@ -40,6 +40,10 @@ retreats-marks z t Closing s e = s .0
 pub fit-at : (r : Rack) → Sound r → (i : ℕ) (t : Ticket) → i < length (r .tickets) → t ≡ ticketAt r i → Fit (r .sizes) (r .handbacks) t
 fit-at r sd i t h e = subst (λ (u : Ticket). Fit (r .sizes) (r .handbacks) u) (sym e) (all-in (Fit (r .sizes) (r .handbacks)) (r .tickets) (ticketAt r i) (sd .fits) (at-in (r .tickets) i h))
 
+-- the window of a ticket out lies within the board
+pub out-inside : (r : Rack) → Sound r → (i : ℕ) (t : Ticket) → i < length (r .tickets) → t ≡ ticketAt r i → t .phase ≡ Out → t .first + t .request .length ≤ r .sizes .columns
+out-inside r sd i t h e q = subst (λ (p : Phase). Shape (r .sizes) p t) q (fit-at r sd i t h e .shape) .1
+
 module _ (r : Rack) (sd : Sound r) (i : ℕ) (t : Ticket) (h : i < length (r .tickets)) (e : t ≡ ticketAt r i) (s : soft (t .phase) ≡ true) where
   here : In t (r .tickets)
   here = subst (λ (u : Ticket). In u (r .tickets)) (sym e) (at-in (r .tickets) i h)

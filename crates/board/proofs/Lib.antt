@@ -8,3 +8,8 @@ pub mod Acting
 pub mod Replacing
 pub mod Picking
 pub mod Deeds
+pub mod Opening
+pub mod Rows
+pub mod Filling
+pub mod LeastPicked
+pub mod Promising

@@ -20,3 +20,6 @@ module _ (x y : Rack) (i : ℕ) (t : Ticket) (o : Option Ticket) (h : i < length
   pub replaced-none : o ≡ None → y ≡ with x (take i (x .tickets) ++ drop (i + 1) (x .tickets)) (x .slots) → Replaced x t o y
   replaced-none q k f p =
       k ∙ ap (λ (ts : List Ticket). with x ts (x .slots)) (sym (edit-gone (x .first) (x .next) f (x .tickets) i t r h e (p ∙ ap listOf q)))
+
+pub replaced-handbacks : (x y : Rack) (t : Ticket) (o : Option Ticket) → Replaced x t o y → y .handbacks ≡ x .handbacks
+replaced-handbacks x y t o h = ap (λ (r : Rack). r .handbacks) (h (λ _. listOf o) refl)

@@ -8,8 +8,14 @@ use lib.ListN.{length}
 use Rattle.std.specs.declared.option.Option.{Option}
 use Rattle.std.specs.declared.option.Option.the-variants.{Some, None}
 use Rattle.rules.specs.declared.ticket.Ticket.{Ticket}
-use Rattle.rules.specs.Rack.{Rack}
-use Rattle.rules.specs.Step.{blocked, passedTo, walk, lastOf}
+use Rattle.std.specs.declared.result.Result.{Result}
+use Rattle.std.specs.declared.result.Result.the-variants.{Ok}
+use Rattle.rules.specs.declared.refusal.Refusal.{Refusal}
+use Rattle.rules.specs.Rack.{Rack, soft}
+use Rattle.rules.specs.Step.{blocked, passedTo, walk, lastOf, led, worked, due}
+use Rattle.rules.specs.Sound.{Sound}
+use Rattle.rules.proofs.Effects.{due-names, found-own}
+use Rattle.rules.proofs.Walks.{works}
 use Rattle.board.specs.Reading.{ticketAt, Passes, walkEnd}
 
 -- whatever a walk that is not empty is asked after, it ends at the same ticket
@@ -44,3 +50,18 @@ module _ (r : Rack) (k place : ℕ) (t w : Ticket) (o : Option ℕ) (e : t ≡ t
       let g : ticketAt r next ≡ passedTo r (ticketAt r place) = subst (λ (u : Ticket). ticketAt r next ≡ passedTo r u) e (b .2) in
       let h : walkEnd (suc n) r (ticketAt r place) ≡ w = subst (λ (m : ℕ). walkEnd m r (ticketAt r place) ≡ w) s inv in
       (sym (walk-on n r (ticketAt r place) (ticketAt r next) f g) ∙ h, b .0)
+
+-- the walk from the ticket that rule 1 gives ends at the one that the step works on
+pub due-ends : (r : Rack) (n i j place : ℕ) → due r n ≡ Ok (worked r (ticketAt r i)) → ticketAt r j ≡ led r (ticketAt r i) → ticketAt r place ≡ walkEnd (suc (r .sizes .columns)) r (ticketAt r j)
+    → due r n ≡ Ok (ticketAt r place)
+due-ends r n i j place d l w =
+    d ∙ ap {B = Result Ticket Refusal} Ok
+        (last-any (suc (r .sizes .columns)) r (ticketAt r i) (led r (ticketAt r i)) (led r (ticketAt r i))
+        ∙ (ap (walkEnd (suc (r .sizes .columns)) r) (sym l) ∙ sym w))
+
+-- and that one is soft
+pub due-soft : (r : Rack) → Sound r → (n : ℕ) (t : Ticket) → due r n ≡ Ok t → soft (t .phase) ≡ true
+due-soft r sd n t d =
+    let k = due-names r n t d in
+    let o = found-own (r .tickets) n (k .0) (k .1) in
+    subst (λ (u : Ticket). soft (u .phase) ≡ true) (k .3) (works r sd (k .0) (o .1) (k .2) .is-soft)

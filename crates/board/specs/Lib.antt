@@ -1,3 +1,5 @@
 pub mod Reading
 pub mod Due
 pub mod Acting
+pub mod Face
+pub mod Tallies

@@ -11,7 +11,11 @@ use Rattle.std.specs.declared.option.Option.the-variants.{Some, None}
 use Rattle.rules.specs.declared.ticket.Ticket.{Ticket}
 use Rattle.rules.specs.declared.ticket.Phase.the-variants.{Forward}
 use Rattle.rules.specs.Lists.{find}
-use Rattle.rules.specs.Rack.{Rack, cells}
+use Rattle.std.specs.declared.result.Result.{Result}
+use Rattle.std.specs.declared.result.Result.the-variants.{Ok, Err}
+use Rattle.rules.specs.declared.refusal.Refusal.{Refusal}
+use Rattle.rules.specs.declared.refusal.Refusal.the-variants as refusal
+use Rattle.rules.specs.Rack.{Rack, named, cells}
 use Rattle.rules.specs.Step.{isForward, ahead, past, blocked, passedTo, walk, lastOf}
 use Rattle.rules.specs.Choosers.{maskOf}
 use Rattle.board.specs.declared.tables.Tables.{Tables}
@@ -39,6 +43,11 @@ ticketAt r i = getD (r .tickets) i noTicket
 abbrev pub Placed : (Ticket → Bool) → List Ticket → Option ℕ → Type 0
 Placed p ts None = find p ts ≡ None
 Placed p ts (Some i) = (i < length ts) × (find p ts ≡ Some (getD ts i noTicket))
+
+-- the place and the ticket that a number names; or the refusal where there is none
+abbrev pub Named : Rack → ℕ → Result (ℕ × Ticket) Refusal → Type 0
+Named r n (Err e) = (e ≡ refusal.Unknown) × (find (named n) (r .tickets) ≡ None)
+Named r n (Ok p) = (p .0 < length (r .tickets)) × (p .1 ≡ ticketAt r (p .0)) × (find (named n) (r .tickets) ≡ Some (p .1))
 
 -- the place found before, or else this one
 abbrev pub firstOf : Option ℕ → ℕ → Option ℕ

@@ -8,7 +8,7 @@ ghost use Rattle.rules.specs.Lists.{unit};
 ghost use Rattle.rules.specs.Rack.{soft, hard};
 ghost use Rattle.rules.specs.Step.{past, led as leading};
 ghost use Rattle.rules.specs.Sound.{Sound, marksIn, bookedIn};
-ghost use Rattle.board.specs.Due.{Due};
+ghost use Rattle.board.specs.Due.{SoftPlace, Due};
 ghost use Rattle.board.specs.Reading.{rackOf, ticketAt, firstOf, Placed, looks as looksAhead, maskSeen, Passes, walkEnd};
 use crate::look::marks_in;
 use crate::look::place_of;
@@ -170,10 +170,9 @@ impl Tables {
         if lead > self.lead { oldest } else { i }
     }
 
-    /// The ticket that a step naming this number works on, or why there is none.
-    pub(crate) fn due(&self, number: u32) -> Result<Spot, Refusal>
-        requires { ⌜ Sound (rackOf (now self)) ⌝ }
-        ensures { λ r. ⌜ Due (rackOf (now (self .entry))) number r ⌝ }
+    /// The place of the soft ticket with this number, or why there is none.
+    pub(crate) fn soft_place(&self, number: u32) -> Result<usize, Refusal>
+        ensures { λ r. ⌜ SoftPlace (rackOf (now (self .entry))) number r ⌝ }
     {
         let Some(i) = place_of(&self.tickets, number) else {
             return Err(Refusal::Unknown);
@@ -181,6 +180,15 @@ impl Tables {
         if !self.ticket(i).phase.is_soft() {
             return Err(Refusal::Stage);
         }
+        Ok(i)
+    }
+
+    /// The ticket that a step naming this number works on, or why there is none.
+    pub(crate) fn due(&self, number: u32) -> Result<Spot, Refusal>
+        requires { ⌜ Sound (rackOf (now self)) ⌝ }
+        ensures { λ r. ⌜ Due (rackOf (now (self .entry))) number r ⌝ }
+    {
+        let i = self.soft_place(number)?;
         Ok(self.walk(self.led(i)))
     }
 }

@@ -26,3 +26,4 @@ pub mod Statuses
 pub mod Balance
 pub mod Windows
 pub mod Whole
+pub mod Carried

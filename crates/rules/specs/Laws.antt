@@ -1,13 +1,15 @@
 -- What holds of every history that calls on a new rack can have, and of the rack that it leads to.
 use mathlib.Core.Path.{_≡_}
-use mathlib.Core.List.{List, [], _∷_, _++_}
+use mathlib.Core.List.{List, [], _∷_, _++_, map, reverse}
 use mathlib.Core.Bool.{Bool, true, false, _&&_}
 use Prim.Native.Nat.{ℕ, suc, _+_, _-_, _*_, _<_, _≤_}
 use lib.Dec.{eqb}
 use lib.ListN.{length, getD}
 use Rattle.std.specs.declared.option.Option.{Option}
 use Rattle.std.specs.declared.option.Option.the-variants.{Some, None}
-use Rattle.std.specs.declared.result.Result.the-variants.{Ok}
+use Rattle.std.specs.declared.result.Result.{Result}
+use Rattle.std.specs.declared.result.Result.the-variants.{Ok, Err}
+use Rattle.rules.specs.declared.refusal.Refusal.{Refusal}
 use Rattle.rules.specs.declared.slot.Slot.the-variants.{Vacant}
 use Rattle.rules.specs.declared.ticket.Ticket.{Ticket}
 use Rattle.rules.specs.declared.report.Action.{Action}
@@ -106,6 +108,20 @@ pub record Holds (h : List Event) (x : Rack) : Type 0 where
   pub waiting-ends : Waiting-ends (x .sizes) h
   pub a-step-is-always-served : A-step-is-always-served x
   pub nothing-wraps : Nothing-wraps x
+
+-- what the answer of a call tells: its event if it is accepted, nothing if it is refused
+abbrev pub told : {A : Type 0} → (A → Event) → Result A Refusal → List Event
+told f (Ok a) = f a ∷ []
+told f (Err e) = []
+
+-- what reports tell, the latest first
+abbrev pub reported : List Report → List Event
+reported rs = reverse (map Event.stepped rs)
+
+-- the promise of a call on rack x that tells these events and leaves rack y: every history that leads to x, with the events
+-- added, leads to y, and all laws hold of it
+abbrev pub Carries : List Event → Rack → Rack → Type 0
+Carries es x y = (h : List Event) → Reaches h x → Reaches (es ++ h) y × Holds (es ++ h) y
 
 -- every history that leads to a rack holds of it
 abbrev pub Laws-hold : Type 0

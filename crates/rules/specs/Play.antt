@@ -17,7 +17,7 @@ use Rattle.rules.specs.Rack.{Rack}
 use Rattle.rules.specs.Choosers.{Asked, Meaning, Lawful}
 use Rattle.rules.specs.Calls.{Outcome, Ran, Moved, book, step, drive, collect, drop′, back}
 use Rattle.rules.specs.History.{Event, New, Reaches}
-use Rattle.rules.specs.Laws.{Holds}
+use Rattle.rules.specs.Laws.{reported, Holds}
 
 -- the calls that go into a list; a drive names a number, a budget and the room of its journal
 pub data Call : Type 0 where
@@ -52,7 +52,7 @@ tells p f o = tellsOf p f (o .rack) (o .answer)
 
 -- each report of a step or a drive is an event
 abbrev pub reporting : {A S : Type 0} → Told → Moved A S → Told
-reporting p m = record { history = reverse (map Event.stepped (m .ran .reports)) ++ p .history; rack = m .ran .rack }
+reporting p m = record { history = reported (m .ran .reports) ++ p .history; rack = m .ran .rack }
 
 abbrev pub turned : Told → (List Asked → Asked → ℕ) → Call → Told
 turned p choose (Call.booking q) = tells p (λ n. Event.taken n q) (book (p .rack) q)
