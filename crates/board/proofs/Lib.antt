@@ -13,3 +13,4 @@ pub mod Rows
 pub mod Filling
 pub mod LeastPicked
 pub mod Promising
+pub mod Running

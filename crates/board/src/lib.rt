@@ -8,6 +8,7 @@ pub mod tables;
 
 mod act;
 mod calls;
+mod drive;
 mod face;
 mod look;
 mod mask;
