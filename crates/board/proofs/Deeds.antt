@@ -77,11 +77,13 @@ module _ (r : Rack) (sd : Sound r) (i : ℕ) (t : Ticket) (h : i < length (r .ti
   pub mark-mask : (m : ℕ) → m ≡ maskSeen r t → actionOf r t ≡ action.Mark → (m ≡ maskOf (cells r (ahead t))) × (m ≡ 0 → ⊥)
   mark-mask m k q =
       let y = told action.Mark q in
-      let e1 : m ≡ maskOf (cells r (ahead t)) = k ∙ rw (mark-looks q) refl in
-      (e1, λ z.
-          let a : eqb (maskOf (cells r (ahead t))) 0 ≡ true = ap (λ (n : ℕ). eqb n 0) (sym e1 ∙ z) in
-          let b : eqb (maskOf (cells r (ahead t))) 0 ≡ false = mask-zero (cells r (ahead t)) ∙ ap not (y .3) in
-          let n : false ≡ true = sym b ∙ a in let w : _≡_ {A = ℕ} 0 1 = cc in omega arith)
+      let e1 : m ≡ maskOf (cells r (ahead t)) = k ∙ rw (mark-looks q) refl in (
+        e1,
+        λ z.
+            let a : eqb (maskOf (cells r (ahead t))) 0 ≡ true = ap (λ (n : ℕ). eqb n 0) (sym e1 ∙ z) in
+            let b : eqb (maskOf (cells r (ahead t))) 0 ≡ false = mask-zero (cells r (ahead t)) ∙ ap not (y .3) in
+            let n : false ≡ true = sym b ∙ a in let w : _≡_ {A = ℕ} 0 1 = cc in omega arith,
+      )
 
 -- what the row of a mark and of a wipe says of the whole action
 module _ {S : Type 0} (m : Meaning S) (r : Rack) (t : Ticket) (s : S) (a : Action) (k : a ≡ actionOf r t) (row : ℕ) where
@@ -125,5 +127,5 @@ module _ {S : Type 0} (m : Meaning S) (r : Rack) (t : Ticket) (s : S) (a : Actio
       let h2 : Replaced z t o y = subst (λ (w : Rack). Replaced w t o y) e h in
       let g : y ≡ with r (edit (named (t .number)) (after (r .handbacks) a) (r .tickets)) (slotsAfter r t column row a) = h2 (after (r .handbacks) a) f2 in
       g ∙ (ap (λ (b : Action). with r (edit (named (t .number)) (after (r .handbacks) b) (r .tickets)) (slotsAfter r t column row b)) p
-          ∙ (ap (λ (c : ℕ). with r (edit (named (t .number)) (after (r .handbacks) (actionOf r t)) (r .tickets)) (slotsAfter r t c row (actionOf r t))) column-is
-            ∙ ap (λ (l : ℕ). with r (edit (named (t .number)) (after (r .handbacks) (actionOf r t)) (r .tickets)) (slotsAfter r t (columnOf (actionOf r t) t) l (actionOf r t))) row-is))
+      ∙ (ap (λ (c : ℕ). with r (edit (named (t .number)) (after (r .handbacks) (actionOf r t)) (r .tickets)) (slotsAfter r t c row (actionOf r t))) column-is
+      ∙ ap (λ (l : ℕ). with r (edit (named (t .number)) (after (r .handbacks) (actionOf r t)) (r .tickets)) (slotsAfter r t (columnOf (actionOf r t) t) l (actionOf r t))) row-is))

@@ -33,8 +33,13 @@ limits z first e =
     let b = and-parts (within 1 256 (z .columns)) (within 1 64 (z .places) && (within 0 64 (z .lead) && within 1 1000000000 first)) (a .1) in
     let c = and-parts (within 1 64 (z .places)) (within 0 64 (z .lead) && within 1 1000000000 first) (b .1) in
     let d = and-parts (within 0 64 (z .lead)) (within 1 1000000000 first) (c .1) in
-    record { rows = in-range 1 16 (z .rows) (a .0); columns = in-range 1 256 (z .columns) (b .0); places = in-range 1 64 (z .places) (c .0)
-           ; lead = in-range 0 64 (z .lead) (d .0); numbers = in-range 1 1000000000 first (d .1) }
+    record {
+      rows = in-range 1 16 (z .rows) (a .0);
+      columns = in-range 1 256 (z .columns) (b .0);
+      places = in-range 1 64 (z .places) (c .0);
+      lead = in-range 0 64 (z .lead) (d .0);
+      numbers = in-range 1 1000000000 first (d .1);
+    }
 
 pub area-most : (z : Sizes) (first : ℕ) → Limits z first → z .columns * z .rows ≤ 4096
 area-most z first l = let m = mul-le (z .columns) (z .rows) 256 16 (l .columns .1) (l .rows .1) in omega arith

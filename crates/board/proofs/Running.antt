@@ -33,23 +33,29 @@ module _ {S : Type 0} (m : Meaning S) (x : Rack) (n : ℕ) (s : S) where
   held-at e (Err f) p = (refl, refl)
 
   goes-at : (k : ℕ) (r : Report) (d : Result Ticket Refusal) → due x n ≡ d → stepWith m x s d .answer ≡ Ok r
-      → steps m (suc k) x n s ≡ record { reports = r ∷ steps m k (stepWith m x s d .ran .rack) n (stepWith m x s d .ran .held) .reports
-                                       ; rack = steps m k (stepWith m x s d .ran .rack) n (stepWith m x s d .ran .held) .rack
-                                       ; held = steps m k (stepWith m x s d .ran .rack) n (stepWith m x s d .ran .held) .held }
+      → steps m (suc k) x n s ≡ record {
+        reports = r ∷ steps m k (stepWith m x s d .ran .rack) n (stepWith m x s d .ran .held) .reports;
+        rack = steps m k (stepWith m x s d .ran .rack) n (stepWith m x s d .ran .held) .rack;
+        held = steps m k (stepWith m x s d .ran .rack) n (stepWith m x s d .ran .held) .held;
+      }
   goes-at k r (Err f) q p = let z : _≡_ {A = ℕ} 0 1 = cc in absurd (omega arith)
   goes-at k r (Ok t) q p =
       steps-more m k x n s t q
-      ∙ ap (λ (v : Report). let ran : Ran S = record { reports = v ∷ steps m k (stepWith m x s (Ok t) .ran .rack) n (stepWith m x s (Ok t) .ran .held) .reports
-                                       ; rack = steps m k (stepWith m x s (Ok t) .ran .rack) n (stepWith m x s (Ok t) .ran .held) .rack
-                                       ; held = steps m k (stepWith m x s (Ok t) .ran .rack) n (stepWith m x s (Ok t) .ran .held) .held } in ran) (ok-inj _ r p)
+      ∙ ap (λ (v : Report). let ran : Ran S = record {
+        reports = v ∷ steps m k (stepWith m x s (Ok t) .ran .rack) n (stepWith m x s (Ok t) .ran .held) .reports;
+        rack = steps m k (stepWith m x s (Ok t) .ran .rack) n (stepWith m x s (Ok t) .ran .held) .rack;
+        held = steps m k (stepWith m x s (Ok t) .ran .rack) n (stepWith m x s (Ok t) .ran .held) .held;
+      } in ran) (ok-inj _ r p)
     where
       ok-inj : (a b : Report) → _≡_ {A = Result Report Refusal} (Ok a) (Ok b) → a ≡ b
       ok-inj a b e = cc
 
   goes : (k l : ℕ) (r : Report) → l ≡ suc k → Ok r ≡ step m x n s .answer
-      → steps m l x n s ≡ record { reports = r ∷ steps m k (step m x n s .ran .rack) n (step m x n s .ran .held) .reports
-                                 ; rack = steps m k (step m x n s .ran .rack) n (step m x n s .ran .held) .rack
-                                 ; held = steps m k (step m x n s .ran .rack) n (step m x n s .ran .held) .held }
+      → steps m l x n s ≡ record {
+        reports = r ∷ steps m k (step m x n s .ran .rack) n (step m x n s .ran .held) .reports;
+        rack = steps m k (step m x n s .ran .rack) n (step m x n s .ran .held) .rack;
+        held = steps m k (step m x n s .ran .rack) n (step m x n s .ran .held) .held;
+      }
   goes k l r q p = ap (λ (i : ℕ). steps m i x n s) q ∙ goes-at k r (due x n) refl (sym p)
 
 -- a turn from rack x, chooser s and journal c, with `made` steps behind it; the drive as a whole makes `total` steps, and leaves the rest
@@ -69,7 +75,7 @@ module _ {S : Type 0} (m : Meaning S) (n : ℕ) (x x′ end : Rack) (s s′ kept
   pub went : (c′ : Contents Report) (r : Report) → Ok r ≡ step m x n s .answer → c′ ≡ pushed c r .contents
       → made + length (steps m left x n s .reports) ≡ total → steps m left x n s .rack ≡ end → steps m left x n s .held ≡ kept → entered c (steps m left x n s .reports) ≡ whole
       → (made + 1 + length (steps m (min (budget - (made + 1)) (roomOf c′)) x′ n s′ .reports) ≡ total) × (steps m (min (budget - (made + 1)) (roomOf c′)) x′ n s′ .rack ≡ end)
-        × (steps m (min (budget - (made + 1)) (roomOf c′)) x′ n s′ .held ≡ kept) × (entered c′ (steps m (min (budget - (made + 1)) (roomOf c′)) x′ n s′ .reports) ≡ whole)
+      × (steps m (min (budget - (made + 1)) (roomOf c′)) x′ n s′ .held ≡ kept) × (entered c′ (steps m (min (budget - (made + 1)) (roomOf c′)) x′ n s′ .reports) ≡ whole)
   went c′ r h t p q k w =
       let o = pushed-room c r (sym room) in
       let a = goes m x n s (min (budget - (made + 1)) (roomOf (pushed c r .contents))) left r (omega arith) h in
@@ -85,5 +91,5 @@ module _ {S : Type 0} (m : Meaning S) (x : Rack) (n budget room : ℕ) (s : S) w
 
   pub drive-runs : (t : Ticket) → due x n ≡ Ok t → eqb room 0 ≡ false
       → drive m x n budget room s
-        ≡ record { answer = Ok (length (steps m (min budget room) x n s .reports), stageAt (steps m (min budget room) x n s .rack) n); ran = steps m (min budget room) x n s }
+      ≡ record { answer = Ok (length (steps m (min budget room) x n s .reports), stageAt (steps m (min budget room) x n s .rack) n); ran = steps m (min budget room) x n s }
   drive-runs t d q = ap (driveWith m x n budget room s) d ∙ rw q refl

@@ -56,8 +56,8 @@ pub due-ends : (r : Rack) (n i j place : ℕ) → due r n ≡ Ok (worked r (tick
     → due r n ≡ Ok (ticketAt r place)
 due-ends r n i j place d l w =
     d ∙ ap {B = Result Ticket Refusal} Ok
-        (last-any (suc (r .sizes .columns)) r (ticketAt r i) (led r (ticketAt r i)) (led r (ticketAt r i))
-        ∙ (ap (walkEnd (suc (r .sizes .columns)) r) (sym l) ∙ sym w))
+    (last-any (suc (r .sizes .columns)) r (ticketAt r i) (led r (ticketAt r i)) (led r (ticketAt r i))
+    ∙ (ap (walkEnd (suc (r .sizes .columns)) r) (sym l) ∙ sym w))
 
 -- and that one is soft
 pub due-soft : (r : Rack) → Sound r → (n : ℕ) (t : Ticket) → due r n ≡ Ok t → soft (t .phase) ≡ true

@@ -29,8 +29,19 @@ use rules::ticket::Ticket;
 fn set_out(t: Ticket, column: u32, handbacks: u32) -> Ticket
     ensures { λ r. ⌜ r ≡ setsOut handbacks column t ⌝ }
 {
-    let seen = if column == t.request.start { handbacks } else { t.seen };
-    Ticket { number: t.number, request: t.request, phase: Phase::Forward, first: column, marks: 0, seen }
+    let seen = if column == t.request.start {
+        handbacks
+    } else {
+        t.seen
+    };
+    Ticket {
+        number: t.number,
+        request: t.request,
+        phase: Phase::Forward,
+        first: column,
+        marks: 0,
+        seen,
+    }
 }
 
 /// Next it goes forward from a column: it backs out first, if it has marks.
@@ -40,7 +51,10 @@ fn redirect(t: Ticket, column: u32, handbacks: u32) -> Ticket
     if t.marks == 0 {
         set_out(t, column, handbacks)
     } else {
-        Ticket { phase: Phase::Backing(column), ..t }
+        Ticket {
+            phase: Phase::Backing(column),
+            ..t
+        }
     }
 }
 
@@ -50,7 +64,10 @@ fn lessened(t: Ticket, handbacks: u32) -> Option<Ticket>
     requires { ⌜ 1 ≤ t .marks ⌝ }
     ensures { λ r. ⌜ wiped handbacks (t .phase) t ≡ listOf r ⌝ }
 {
-    let fewer = Ticket { marks: t.marks - 1, ..t };
+    let fewer = Ticket {
+        marks: t.marks - 1,
+        ..t
+    };
     match t.phase {
         Phase::Closing => {
             if t.marks <= 1 {
@@ -77,9 +94,18 @@ fn becomes(t: Ticket, action: Action, handbacks: u32) -> Option<Ticket>
     match action {
         Action::Wipe => lessened(t, handbacks),
         Action::Over => Some(redirect(t, t.request.start, handbacks)),
-        Action::Without => Some(Ticket { phase: Phase::Without, ..t }),
-        Action::Grant => Some(Ticket { phase: Phase::Granted, ..t }),
-        Action::Mark => Some(Ticket { marks: t.marks + 1, ..t }),
+        Action::Without => Some(Ticket {
+            phase: Phase::Without,
+            ..t
+        }),
+        Action::Grant => Some(Ticket {
+            phase: Phase::Granted,
+            ..t
+        }),
+        Action::Mark => Some(Ticket {
+            marks: t.marks + 1,
+            ..t
+        }),
         Action::Wall => Some(redirect(t, t.first + t.marks + 1, handbacks)),
     }
 }
@@ -142,7 +168,11 @@ impl Tables {
         if complete {
             return Action::Grant;
         }
-        if mask != 0 { Action::Mark } else { Action::Wall }
+        if mask != 0 {
+            Action::Mark
+        } else {
+            Action::Wall
+        }
     }
 }
 
@@ -205,7 +235,14 @@ impl Tables {
 
 impl Tables {
     /// The row that an action writes: for a mark the chooser's, for a wipe the mark's own, else 0.
-    fn row_for<C: Chooser>(&self, i: usize, t: Ticket, action: Action, mask: u16, chooser: &mut C) -> u32
+    fn row_for<C: Chooser>(
+        &self,
+        i: usize,
+        t: Ticket,
+        action: Action,
+        mask: u16,
+        chooser: &mut C,
+    ) -> u32
         requires sound { ⌜ Sound (rackOf (now self)) ⌝ }
         requires within { ⌜ i < vec-len (now self .tickets) ⌝ }
         requires is { ⌜ t ≡ ticketAt (rackOf (now self)) i ⌝ }
@@ -239,6 +276,11 @@ impl Tables {
         let row = self.row_for(spot.place, t, action, spot.mask, chooser);
         self.write(t, action, column, row);
         self.replace(spot.place, t, becomes(t, action, self.handbacks));
-        Report { number: t.number, action, column, row }
+        Report {
+            number: t.number,
+            action,
+            column,
+            row,
+        }
     }
 }

@@ -34,7 +34,11 @@ fn within(low: u32, high: u32, n: u32) -> bool
 fn openable(rows: u32, columns: u32, places: u32, lead: u32, first: u32) -> bool
     ensures { λ r. ⌜ r ≡ canOpen (record { rows = rows; columns = columns; places = places; lead = lead }) first ⌝ }
 {
-    within(1, 16, rows) && within(1, 256, columns) && within(1, 64, places) && within(0, 64, lead) && within(1, 1_000_000_000, first)
+    within(1, 16, rows)
+        && within(1, 256, columns)
+        && within(1, 64, places)
+        && within(0, 64, lead)
+        && within(1, 1_000_000_000, first)
 }
 
 /// What a ticket becomes when its booking is withdrawn: it leaves, if it has no mark.
@@ -44,11 +48,21 @@ fn withdrawn(t: Ticket) -> Option<Ticket>
     if t.marks == 0 {
         return None;
     }
-    Some(Ticket { phase: Phase::Closing, ..t })
+    Some(Ticket {
+        phase: Phase::Closing,
+        ..t
+    })
 }
 
 impl Tables {
-    pub(crate) fn open(&mut self, rows: u32, columns: u32, places: u32, lead: u32, first: u32) -> Result<(), Refusal>
+    pub(crate) fn open(
+        &mut self,
+        rows: u32,
+        columns: u32,
+        places: u32,
+        lead: u32,
+        first: u32,
+    ) -> Result<(), Refusal>
         ensures answer { λ r. ⌜ r ≡ openCall (rackOf (now (self .entry))) (record { rows = rows; columns = columns; places = places; lead = lead }) first .answer ⌝ }
         ensures rack { λ r. ⌜ rackOf (now (self .exit)) ≡ openCall (rackOf (now (self .entry))) (record { rows = rows; columns = columns; places = places; lead = lead }) first .rack ⌝ }
     {
@@ -57,7 +71,8 @@ impl Tables {
         }
         self.tickets.clear();
         self.slots.clear();
-        let _ = self.slots.resize(columns as usize * rows as usize, Slot::Vacant);
+        let _ = self.slots
+            .resize(columns as usize * rows as usize, Slot::Vacant);
         self.rows = rows;
         self.columns = columns;
         self.places = places;
@@ -92,7 +107,14 @@ impl Tables {
             return Err(refusal);
         }
         let number = self.next;
-        let ticket = Ticket { number, request, phase: Phase::Forward, first: request.start, marks: 0, seen: self.handbacks };
+        let ticket = Ticket {
+            number,
+            request,
+            phase: Phase::Forward,
+            first: request.start,
+            marks: 0,
+            seen: self.handbacks,
+        };
         self.tickets.push_reserved(ticket);
         self.next = number + 1;
         Ok(number)
@@ -118,8 +140,18 @@ impl Tables {
         let (i, t) = self.named(number)?;
         match t.phase {
             Phase::Granted => {
-                self.replace(i, t, Some(Ticket { phase: Phase::Out, ..t }));
-                Ok(Some(Span { first: t.first, length: t.request.length }))
+                self.replace(
+                    i,
+                    t,
+                    Some(Ticket {
+                        phase: Phase::Out,
+                        ..t
+                    }),
+                );
+                Ok(Some(Span {
+                    first: t.first,
+                    length: t.request.length,
+                }))
             }
             Phase::Without => {
                 self.replace(i, t, None);
@@ -152,11 +184,19 @@ impl Tables {
         let (i, t) = self.named(number)?;
         match t.phase {
             Phase::Out => {
-                self.replace(i, t, Some(Ticket { phase: Phase::Closing, ..t }));
+                self.replace(
+                    i,
+                    t,
+                    Some(Ticket {
+                        phase: Phase::Closing,
+                        ..t
+                    }),
+                );
                 self.handbacks += 1;
                 Ok(())
             }
-            Phase::Forward | Phase::Backing(_) | Phase::Without | Phase::Granted | Phase::Closing => Err(Refusal::Stage),
+            Phase::Forward | Phase::Backing(_) | Phase::Without | Phase::Granted | Phase::Closing =>
+                Err(Refusal::Stage),
         }
     }
 }
@@ -195,7 +235,8 @@ impl Tables {
                 }
                 Ok(row_of(self.cells(t.first + offset), t.number))
             }
-            Phase::Forward | Phase::Backing(_) | Phase::Without | Phase::Granted | Phase::Closing => Err(Refusal::Stage),
+            Phase::Forward | Phase::Backing(_) | Phase::Without | Phase::Granted | Phase::Closing =>
+                Err(Refusal::Stage),
         }
     }
 

@@ -17,7 +17,13 @@ use rules::ticket::Stage;
 
 impl Board {
     /// Steps, each report entered, until the ticket is not soft, the budget is made or the journal is full.
-    fn run<C: Chooser>(&mut self, number: u32, budget: u32, journal: &mut Journal<Report>, chooser: &mut C) -> u32
+    fn run<C: Chooser>(
+        &mut self,
+        number: u32,
+        budget: u32,
+        journal: &mut Journal<Report>,
+        chooser: &mut C,
+    ) -> u32
         ensures count { λ r. ⌜ r ≡ length (steps (C·Chooser .meaning) (min budget (roomOf (contentsOf (now (journal .entry))))) (rackIn (now (self .entry))) number (now (chooser .entry)) .reports) ⌝ }
         ensures rack { λ _. ⌜ rackIn (now (self .exit)) ≡ steps (C·Chooser .meaning) (min budget (roomOf (contentsOf (now (journal .entry))))) (rackIn (now (self .entry))) number (now (chooser .entry)) .rack ⌝ }
         ensures chooser { λ _. ⌜ now (chooser .exit) ≡ steps (C·Chooser .meaning) (min budget (roomOf (contentsOf (now (journal .entry))))) (rackIn (now (self .entry))) number (now (chooser .entry)) .held ⌝ }
@@ -40,7 +46,13 @@ impl Board {
 
     /// Drives a booking on: answers how many steps it made, each with its report in the journal, and
     /// the stage that the number is in then.
-    pub fn drive<C: Chooser>(&mut self, number: u32, budget: u32, journal: &mut Journal<Report>, chooser: &mut C) -> Result<(u32, Stage), Refusal>
+    pub fn drive<C: Chooser>(
+        &mut self,
+        number: u32,
+        budget: u32,
+        journal: &mut Journal<Report>,
+        chooser: &mut C,
+    ) -> Result<(u32, Stage), Refusal>
         ensures answer { λ r. ⌜ r ≡ driveCall (C·Chooser .meaning) (rackIn (now (self .entry))) number budget (roomOf (contentsOf (now (journal .entry)))) (now (chooser .entry)) .answer ⌝ }
         ensures rack { λ _. ⌜ rackIn (now (self .exit)) ≡ driveCall (C·Chooser .meaning) (rackIn (now (self .entry))) number budget (roomOf (contentsOf (now (journal .entry)))) (now (chooser .entry)) .ran .rack ⌝ }
         ensures chooser { λ _. ⌜ now (chooser .exit) ≡ driveCall (C·Chooser .meaning) (rackIn (now (self .entry))) number budget (roomOf (contentsOf (now (journal .entry)))) (now (chooser .entry)) .ran .held ⌝ }

@@ -20,6 +20,7 @@ use std::alloc::AllocError;
 use std::alloc::Global;
 
 const MOST_PLACES: usize = 64;
+
 const MOST_SLOTS: usize = 4096;
 
 impl Board {
@@ -31,12 +32,29 @@ impl Board {
         let tickets = Vec::with_capacity(heap, MOST_PLACES)?;
         let mut slots = Vec::with_capacity(heap, MOST_SLOTS)?;
         slots.push_reserved(Slot::Vacant);
-        let tables = Tables { rows: 1, columns: 1, places: 1, lead: 0, first: 1, next: 1, handbacks: 0, tickets, slots };
+        let tables = Tables {
+            rows: 1,
+            columns: 1,
+            places: 1,
+            lead: 0,
+            first: 1,
+            next: 1,
+            handbacks: 0,
+            tickets,
+            slots,
+        };
         Ok(Board { tables })
     }
 
     /// Opens the board anew, whatever stood on it, and starts a new list of calls.
-    pub fn open(&mut self, rows: u32, columns: u32, places: u32, lead: u32, first: u32) -> Result<(), Refusal>
+    pub fn open(
+        &mut self,
+        rows: u32,
+        columns: u32,
+        places: u32,
+        lead: u32,
+        first: u32,
+    ) -> Result<(), Refusal>
         ensures answer { λ r. ⌜ r ≡ openCall (rackIn (now (self .entry))) (record { rows = rows; columns = columns; places = places; lead = lead }) first .answer ⌝ }
         ensures rack { λ r. ⌜ rackIn (now (self .exit)) ≡ openCall (rackIn (now (self .entry))) (record { rows = rows; columns = columns; places = places; lead = lead }) first .rack ⌝ }
         ensures history { λ r. ⌜ (r ≡ Ok tt → Reaches [] (rackIn (now (self .exit)))) ⌝ }

@@ -1,17 +1,16 @@
 //! The slot board: tables of tickets and slots, the steps that work on them, and the calls.
-pub mod board;
-pub mod chooser;
-pub mod evening;
-pub mod lowest;
-pub mod staying;
-pub mod tables;
-
 mod act;
+pub mod board;
 mod calls;
+pub mod chooser;
 mod drive;
+pub mod evening;
 mod face;
 mod look;
+pub mod lowest;
 mod mask;
+pub mod staying;
 mod step;
+pub mod tables;
 mod tally;
 mod walk;

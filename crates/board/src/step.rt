@@ -9,7 +9,11 @@ use rules::refusal::Refusal;
 use rules::report::Report;
 
 impl Tables {
-    pub(crate) fn step<C: Chooser>(&mut self, number: u32, chooser: &mut C) -> Result<Report, Refusal>
+    pub(crate) fn step<C: Chooser>(
+        &mut self,
+        number: u32,
+        chooser: &mut C,
+    ) -> Result<Report, Refusal>
         requires { ⌜ Sound (rackOf (now self)) ⌝ }
         ensures answer { λ r. ⌜ r ≡ stepCall (C·Chooser .meaning) (rackOf (now (self .entry))) number (now (chooser .entry)) .answer ⌝ }
         ensures rack { λ r. ⌜ rackOf (now (self .exit)) ≡ stepCall (C·Chooser .meaning) (rackOf (now (self .entry))) number (now (chooser .entry)) .ran .rack ⌝ }

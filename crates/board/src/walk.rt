@@ -2,6 +2,7 @@
 ghost use mathlib.Core.Path.{_≡_};
 ghost use mathlib.Core.Bool.{true, false, cond, _&&_};
 ghost use Prim.Native.Nat.{ℕ, suc, _+_, _-_, _*_, _<_, _≤_};
+ghost use lib.Dec.{ltb};
 ghost use lib.ListN.{length};
 ghost use Rattle.std.specs.Of.Vec.{vec-len};
 ghost use Rattle.rules.specs.Lists.{unit};
@@ -145,15 +146,28 @@ impl Tables {
             let look = self.look(self.ticket(place));
             match look.holder {
                 Some(next) => place = next,
-                None => return Spot { place, mask: look.mask },
+                None => return Spot {
+                    place,
+                    mask: look.mask,
+                },
             }
         }
         let look = self.look(self.ticket(place));
-        Spot { place, mask: look.mask }
+        Spot {
+            place,
+            mask: look.mask,
+        }
     }
 }
 
 impl Tables {
+    /// The first ticket is more than the lead ahead of the second.
+    fn runs_ahead(&self, t: Ticket, oldest: Ticket) -> bool
+        ensures { λ r. ⌜ r ≡ ltb (now (self .entry) .lead) (t .number - oldest .number) ⌝ }
+    {
+        t.number.saturating_sub(oldest.number) > self.lead
+    }
+
     /// Rule 1: the place of the oldest soft ticket, if the one at this place is more than the lead
     /// ahead of it; otherwise this place.
     fn led(&self, i: usize) -> usize
@@ -166,8 +180,11 @@ impl Tables {
         let Some(oldest) = foremost(&self.tickets) else {
             return i;
         };
-        let lead = self.ticket(i).number.saturating_sub(self.ticket(oldest).number);
-        if lead > self.lead { oldest } else { i }
+        if self.runs_ahead(self.ticket(i), self.ticket(oldest)) {
+            oldest
+        } else {
+            i
+        }
     }
 
     /// The place of the soft ticket with this number, or why there is none.

@@ -50,7 +50,7 @@ module _ {S : Type 0} (m : Meaning S) (lawful : Lawful m) (x : Rack) (n : ℕ) w
   pub step-carries : (s : S) → Carries (told Event.stepped (step m x n s .answer)) x (step m x n s .ran .rack)
   step-carries s =
       subst (λ (es : List Event). Carries es x (step m x n s .ran .rack)) (step-told s (due x n))
-          (reaches-carries (reported (step m x n s .ran .reports)) x (step m x n s .ran .rack) (λ h r. step-reaches m lawful h x r n s))
+      (reaches-carries (reported (step m x n s .ran .reports)) x (step m x n s .ran .rack) (λ h r. step-reaches m lawful h x r n s))
 
   pub drive-carries : (budget room : ℕ) (s : S) → Carries (reported (drive m x n budget room s .ran .reports)) x (drive m x n budget room s .ran .rack)
   drive-carries budget room s =

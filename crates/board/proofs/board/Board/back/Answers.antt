@@ -16,5 +16,8 @@ ghost-self c =
 
 pub returns : need.returns
 returns c =
-    record { answer = c .back .ensures .answer; rack = c .back .ensures .rack
-           ; history = carries-told (λ _. Event.returned (c .args .number)) (rackOf (c .args .self .now .tables)) (rackOf (c .back .last .self)) _ (c .back .result) _ (back-carries (rackOf (c .args .self .now .tables)) (c .args .number)) (c .back .ensures .answer) (c .back .ensures .rack) }
+    record {
+      answer = c .back .ensures .answer;
+      rack = c .back .ensures .rack;
+      history = carries-told (λ _. Event.returned (c .args .number)) (rackOf (c .args .self .now .tables)) (rackOf (c .back .last .self)) _ (c .back .result) _ (back-carries (rackOf (c .args .self .now .tables)) (c .args .number)) (c .back .ensures .answer) (c .back .ensures .rack);
+    }

@@ -13,5 +13,8 @@ ghost-self c =
 
 pub returns : need.returns
 returns c =
-    record { answer = c .book .ensures .answer; rack = c .book .ensures .rack
-           ; history = carries-told (λ n. Event.taken n (c .args .request)) (rackOf (c .args .self .now .tables)) (rackOf (c .book .last .self)) _ (c .book .result) _ (book-carries (rackOf (c .args .self .now .tables)) (c .args .request)) (c .book .ensures .answer) (c .book .ensures .rack) }
+    record {
+      answer = c .book .ensures .answer;
+      rack = c .book .ensures .rack;
+      history = carries-told (λ n. Event.taken n (c .args .request)) (rackOf (c .args .self .now .tables)) (rackOf (c .book .last .self)) _ (c .book .result) _ (book-carries (rackOf (c .args .self .now .tables)) (c .args .request)) (c .book .ensures .answer) (c .book .ensures .rack);
+    }

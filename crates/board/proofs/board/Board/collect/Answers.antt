@@ -16,5 +16,8 @@ ghost-self c =
 
 pub returns : need.returns
 returns c =
-    record { answer = c .collect .ensures .answer; rack = c .collect .ensures .rack
-           ; history = carries-told (λ _. Event.collected (c .args .number)) (rackOf (c .args .self .now .tables)) (rackOf (c .collect .last .self)) _ (c .collect .result) _ (collect-carries (rackOf (c .args .self .now .tables)) (c .args .number)) (c .collect .ensures .answer) (c .collect .ensures .rack) }
+    record {
+      answer = c .collect .ensures .answer;
+      rack = c .collect .ensures .rack;
+      history = carries-told (λ _. Event.collected (c .args .number)) (rackOf (c .args .self .now .tables)) (rackOf (c .collect .last .self)) _ (c .collect .result) _ (collect-carries (rackOf (c .args .self .now .tables)) (c .args .number)) (c .collect .ensures .answer) (c .collect .ensures .rack);
+    }

@@ -28,10 +28,15 @@ returns-in-Break-soft-place g c =
     let room = roomOf (contentsOf (c .args .journal .now)) in
     let p = err-from-errBy (c .from-residual .result) (c .from-residual .ensures .1) in
     let d = drive-none m x (c .args .number) (c .args .budget) room (c .args .chooser .now) _ (c .in-Break-soft-place .ensures tt) in
-    record { answer = p .1 ∙ (ap Err (p .2) ∙ sym (ap (λ o. o .answer) d)); rack = sym (ap (λ o. o .ran .rack) d); chooser = sym (ap (λ o. o .ran .held) d)
-           ; journal = sym (ap (λ o. entered (contentsOf (c .args .journal .now)) (o .ran .reports)) d); place = refl
-           ; history = subst (λ (y : Rack). Carries (reported (drive m x (c .args .number) (c .args .budget) room (c .args .chooser .now) .ran .reports)) x y) (ap (λ o. o .ran .rack) d)
-                 (drive-carries m (g .C·Chooser·met .lawful) x (c .args .number) (c .args .budget) room (c .args .chooser .now)) }
+    record {
+      answer = p .1 ∙ (ap Err (p .2) ∙ sym (ap (λ o. o .answer) d));
+      rack = sym (ap (λ o. o .ran .rack) d);
+      chooser = sym (ap (λ o. o .ran .held) d);
+      journal = sym (ap (λ o. entered (contentsOf (c .args .journal .now)) (o .ran .reports)) d);
+      place = refl;
+      history = subst (λ (y : Rack). Carries (reported (drive m x (c .args .number) (c .args .budget) room (c .args .chooser .now) .ran .reports)) x y) (ap (λ o. o .ran .rack) d)
+          (drive-carries m (g .C·Chooser·met .lawful) x (c .args .number) (c .args .budget) room (c .args .chooser .now));
+    }
 
 pub returns-then-is-full : need.returns-then-is-full
 returns-then-is-full g c =
@@ -39,10 +44,15 @@ returns-then-is-full g c =
     let x = rackIn (c .args .self .now) in
     let room = roomOf (contentsOf (c .args .journal .now)) in
     let d = drive-full m x (c .args .number) (c .args .budget) room (c .args .chooser .now) _ (c .in-Continue-soft-place .ensures tt .2) (sym (c .if-is-full .ensures tt)) in
-    record { answer = sym (ap (λ o. o .answer) d); rack = sym (ap (λ o. o .ran .rack) d); chooser = sym (ap (λ o. o .ran .held) d)
-           ; journal = sym (ap (λ o. entered (contentsOf (c .args .journal .now)) (o .ran .reports)) d); place = refl
-           ; history = subst (λ (y : Rack). Carries (reported (drive m x (c .args .number) (c .args .budget) room (c .args .chooser .now) .ran .reports)) x y) (ap (λ o. o .ran .rack) d)
-                 (drive-carries m (g .C·Chooser·met .lawful) x (c .args .number) (c .args .budget) room (c .args .chooser .now)) }
+    record {
+      answer = sym (ap (λ o. o .answer) d);
+      rack = sym (ap (λ o. o .ran .rack) d);
+      chooser = sym (ap (λ o. o .ran .held) d);
+      journal = sym (ap (λ o. entered (contentsOf (c .args .journal .now)) (o .ran .reports)) d);
+      place = refl;
+      history = subst (λ (y : Rack). Carries (reported (drive m x (c .args .number) (c .args .budget) room (c .args .chooser .now) .ran .reports)) x y) (ap (λ o. o .ran .rack) d)
+          (drive-carries m (g .C·Chooser·met .lawful) x (c .args .number) (c .args .budget) room (c .args .chooser .now));
+    }
 
 pub returns : need.returns
 returns g c =
@@ -51,9 +61,13 @@ returns g c =
     let room = roomOf (contentsOf (c .args .journal .now)) in
     let d = drive-runs m x (c .args .number) (c .args .budget) room (c .args .chooser .now) _ (c .in-Continue-soft-place .ensures tt .2) (sym (c .if-is-full .ensures tt)) in
     let e = c .run-made .ensures .rack ∙ sym (ap (λ o. o .ran .rack) d) in
-    record { answer = ap {B = Result (ℕ × Stage) Refusal} Ok (let a = c .run-made .ensures .count in let b = c .stage .ensures ∙ ap (λ (y : Rack). stageAt y (c .args .number)) (c .run-made .ensures .rack) in cc)
-                 ∙ sym (ap (λ o. o .answer) d)
-           ; rack = e; chooser = c .run-made .ensures .chooser ∙ sym (ap (λ o. o .ran .held) d)
-           ; journal = c .run-made .ensures .journal ∙ sym (ap (λ o. entered (contentsOf (c .args .journal .now)) (o .ran .reports)) d); place = c .run-made .ensures .place
-           ; history = subst (λ (y : Rack). Carries (reported (drive m x (c .args .number) (c .args .budget) room (c .args .chooser .now) .ran .reports)) x y) (sym e)
-                 (drive-carries m (g .C·Chooser·met .lawful) x (c .args .number) (c .args .budget) room (c .args .chooser .now)) }
+    record {
+      answer = ap {B = Result (ℕ × Stage) Refusal} Ok (let a = c .run-made .ensures .count in let b = c .stage .ensures ∙ ap (λ (y : Rack). stageAt y (c .args .number)) (c .run-made .ensures .rack) in cc)
+          ∙ sym (ap (λ o. o .answer) d);
+      rack = e;
+      chooser = c .run-made .ensures .chooser ∙ sym (ap (λ o. o .ran .held) d);
+      journal = c .run-made .ensures .journal ∙ sym (ap (λ o. entered (contentsOf (c .args .journal .now)) (o .ran .reports)) d);
+      place = c .run-made .ensures .place;
+      history = subst (λ (y : Rack). Carries (reported (drive m x (c .args .number) (c .args .budget) room (c .args .chooser .now) .ran .reports)) x y) (sym e)
+          (drive-carries m (g .C·Chooser·met .lawful) x (c .args .number) (c .args .budget) room (c .args .chooser .now));
+    }

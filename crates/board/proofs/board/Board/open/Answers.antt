@@ -11,5 +11,8 @@ ghost-self c =
 pub returns : need.returns
 returns c =
     let z : Sizes = record { rows = c .args .rows; columns = c .args .columns; places = c .args .places; lead = c .args .lead } in
-    record { answer = c .«open» .ensures .answer; rack = c .«open» .ensures .rack
-           ; history = open-reaches (rackOf (c .args .self .now .tables)) (rackOf (c .«open» .last .self)) z (c .args .first) (c .«open» .result) (c .«open» .ensures .answer) (c .«open» .ensures .rack) }
+    record {
+      answer = c .«open» .ensures .answer;
+      rack = c .«open» .ensures .rack;
+      history = open-reaches (rackOf (c .args .self .now .tables)) (rackOf (c .«open» .last .self)) z (c .args .first) (c .«open» .result) (c .«open» .ensures .answer) (c .«open» .ensures .rack);
+    }

@@ -16,5 +16,9 @@ ghost-self g c =
 
 pub returns : need.returns
 returns g c =
-    record { answer = c .step .ensures .answer; rack = c .step .ensures .rack; chooser = c .step .ensures .held
-           ; history = carries-told Event.stepped (rackOf (c .args .self .now .tables)) (rackOf (c .step .last .self)) _ (c .step .result) _ (step-carries (g .C·Chooser .meaning) (g .C·Chooser·met .lawful) (rackOf (c .args .self .now .tables)) (c .args .number) (c .args .chooser .now)) (c .step .ensures .answer) (c .step .ensures .rack) }
+    record {
+      answer = c .step .ensures .answer;
+      rack = c .step .ensures .rack;
+      chooser = c .step .ensures .held;
+      history = carries-told Event.stepped (rackOf (c .args .self .now .tables)) (rackOf (c .step .last .self)) _ (c .step .result) _ (step-carries (g .C·Chooser .meaning) (g .C·Chooser·met .lawful) (rackOf (c .args .self .now .tables)) (c .args .number) (c .args .chooser .now)) (c .step .ensures .answer) (c .step .ensures .rack);
+    }

@@ -16,5 +16,8 @@ ghost-self c =
 
 pub returns : need.returns
 returns c =
-    record { answer = c .withdraw .ensures .answer; rack = c .withdraw .ensures .rack
-           ; history = carries-told (λ _. Event.dropped (c .args .number)) (rackOf (c .args .self .now .tables)) (rackOf (c .withdraw .last .self)) _ (c .withdraw .result) _ (drop-carries (rackOf (c .args .self .now .tables)) (c .args .number)) (c .withdraw .ensures .answer) (c .withdraw .ensures .rack) }
+    record {
+      answer = c .withdraw .ensures .answer;
+      rack = c .withdraw .ensures .rack;
+      history = carries-told (λ _. Event.dropped (c .args .number)) (rackOf (c .args .self .now .tables)) (rackOf (c .withdraw .last .self)) _ (c .withdraw .result) _ (drop-carries (rackOf (c .args .self .now .tables)) (c .args .number)) (c .withdraw .ensures .answer) (c .withdraw .ensures .rack);
+    }

@@ -1,7 +1,10 @@
 use mathlib.Core.Path.{_≡_, sym, ap, _∙_}
+use mathlib.Core.Bool.{true, false}
 use Prim.Native.Nat.{_-_, _<_, _≤_}
 use native.Mathlib.Omega.{arith}
+use lib.Dec.{ltb}
 use lib.ListN.{length}
+use Rattle.std.proofs.shelf.Tests.{ltb-true, ltb-false}
 use Rattle.rules.specs.declared.ticket.Ticket.{Ticket}
 use Rattle.lists.specs.Order.{LeadsAt}
 use Rattle.rules.specs.Order.{ticketBefore}
@@ -9,8 +12,8 @@ use Rattle.board.specs.Reading.{rackOf, ticketAt}
 use Rattle.board.proofs.Leading.{oldest-at, led-oldest, led-named}
 use Rattle.board.proofs.tables.Tables.led.Needs as need
 
-pub returns-then-lead-self : need.returns-then-lead-self
-returns-then-lead-self c =
+pub returns-then-runs-ahead : need.returns-then-runs-ahead
+returns-then-runs-ahead c =
     let r = rackOf (c .args .self .now) in
     let v = c .args .self .now .tickets .ok .0 in
     let l : LeadsAt ticketBefore (r .tickets) (c .in-Some .oldest) = rw (c .deref .ensures .value) at (c .in-Some .ensures tt .leads) in
@@ -18,12 +21,11 @@ returns-then-lead-self c =
     let o = oldest-at r (c .pre .sound) (c .args .i) (c .in-Some .oldest) (omega arith) (c .pre .is-soft) l in
     let a = ap (λ (t : Ticket). t .number) (c .ticket .ensures) in
     let b = ap (λ (t : Ticket). t .number) (c .ticket-2 .ensures) in
-    let d = c .saturating-sub-lead .ensures in
-    let k = c .if-lead-self .taken in
+    let k = ltb-true (c .args .self .now .lead) (c .ticket .result .number - c .ticket-2 .result .number) (sym (c .if-runs-ahead .ensures tt)) in
     record { within = omega arith; is = led-oldest r (ticketAt r (c .args .i)) (ticketAt r (c .in-Some .oldest)) o (omega arith) }
 
-pub returns-else-lead-self : need.returns-else-lead-self
-returns-else-lead-self c =
+pub returns-else-runs-ahead : need.returns-else-runs-ahead
+returns-else-runs-ahead c =
     let r = rackOf (c .args .self .now) in
     let v = c .args .self .now .tickets .ok .0 in
     let l : LeadsAt ticketBefore (r .tickets) (c .in-Some .oldest) = rw (c .deref .ensures .value) at (c .in-Some .ensures tt .leads) in
@@ -31,6 +33,5 @@ returns-else-lead-self c =
     let o = oldest-at r (c .pre .sound) (c .args .i) (c .in-Some .oldest) (omega arith) (c .pre .is-soft) l in
     let a = ap (λ (t : Ticket). t .number) (c .ticket .ensures) in
     let b = ap (λ (t : Ticket). t .number) (c .ticket-2 .ensures) in
-    let d = c .saturating-sub-lead .ensures in
-    let k = c .if-lead-self .left in
+    let k = ltb-false (c .args .self .now .lead) (c .ticket .result .number - c .ticket-2 .result .number) (sym (c .if-runs-ahead .ensures tt)) in
     record { within = p; is = led-named r (ticketAt r (c .args .i)) (ticketAt r (c .in-Some .oldest)) o (omega arith) }

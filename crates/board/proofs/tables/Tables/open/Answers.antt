@@ -32,6 +32,8 @@ returns c =
     let p1 = c .args .self .now .spare .1 in
     let d = c .clear-2 .ensures .capacity in
     let ok = c .resize .ensures .succeeds (omega arith) in
-    record { answer = opened-answer (rackOf (c .args .self .now)) z (c .args .first) e
-           ; rack = opened-rack (rackOf (c .args .self .now)) (rackOf (c .args .self .now)) z (c .args .first) e (vec-items (c .clear .last .self)) (vec-items (c .resize .last .self)) (c .clear .ensures .items)
-                 (filled (z .columns * z .rows) _ _ _ _ ok (c .clear-2 .ensures .len) (c .clear-2 .ensures .items) (c .resize .ensures .items)) }
+    record {
+      answer = opened-answer (rackOf (c .args .self .now)) z (c .args .first) e;
+      rack = opened-rack (rackOf (c .args .self .now)) (rackOf (c .args .self .now)) z (c .args .first) e (vec-items (c .clear .last .self)) (vec-items (c .resize .last .self)) (c .clear .ensures .items)
+          (filled (z .columns * z .rows) _ _ _ _ ok (c .clear-2 .ensures .len) (c .clear-2 .ensures .items) (c .resize .ensures .items));
+    }

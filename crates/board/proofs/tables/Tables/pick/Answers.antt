@@ -9,9 +9,11 @@ returns g c =
     let m = g .C·Chooser .meaning in
     let r = rackOf (c .args .self .now) in
     let e = picked-row m (g .C·Chooser·met .lawful) r (c .pre .sound) (c .args .t) (c .args .chooser .now) (c .pre .inside) (c .args .mask) (c .pre .mask) (c .pre .vacant)
-            (c .left-row-left .result) (c .left-row-left .ensures) (c .in-Some .row) (c .in-Some .ensures tt .answer) in
-    record { row = e
-           ; held = picked-held m (g .C·Chooser·met .lawful) r (c .pre .sound) (c .args .t) (c .args .chooser .now) (c .pre .inside) (c .args .mask) (c .pre .mask) (c .pre .vacant)
-                 (c .left-row-left .result) (c .left-row-left .ensures) _ (c .in-Some .ensures tt .held)
-           ; within = picked-within m (g .C·Chooser·met .lawful) r (c .pre .sound) (c .args .t) (c .args .chooser .now) (c .pre .inside) (c .args .mask) (c .pre .mask) (c .pre .vacant)
-                 (c .left-row-left .result) (c .left-row-left .ensures) (c .in-Some .row) e }
+    (c .left-row-left .result) (c .left-row-left .ensures) (c .in-Some .row) (c .in-Some .ensures tt .answer) in
+    record {
+      row = e;
+      held = picked-held m (g .C·Chooser·met .lawful) r (c .pre .sound) (c .args .t) (c .args .chooser .now) (c .pre .inside) (c .args .mask) (c .pre .mask) (c .pre .vacant)
+          (c .left-row-left .result) (c .left-row-left .ensures) _ (c .in-Some .ensures tt .held);
+      within = picked-within m (g .C·Chooser·met .lawful) r (c .pre .sound) (c .args .t) (c .args .chooser .now) (c .pre .inside) (c .args .mask) (c .pre .mask) (c .pre .vacant)
+          (c .left-row-left .result) (c .left-row-left .ensures) (c .in-Some .row) e;
+    }

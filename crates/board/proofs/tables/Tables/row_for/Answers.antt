@@ -42,10 +42,12 @@ returns-in-Mark g c =
     let t = c .args .t in
     let h : c .args .i < length (r .tickets) = let v = c .args .self .now .tickets .ok .0 in let w = c .pre .within in omega arith in
     let row = c .pick .result in
-    record { row = mark-told m r t s (c .args .action) (c .pre .action) row (c .in-Mark .is) (c .pick .ensures .row)
-           ; held = mark-held m r t s (c .args .action) (c .pre .action) row (c .in-Mark .is) (c .pick .last .chooser) (c .pick .ensures .held)
-           ; writes = mark-writes m r t s (c .args .action) (c .pre .action) row (c .in-Mark .is)
-                 (mark-inside r (c .pre .sound) (c .args .i) t h (c .pre .is) (c .pre .is-soft) (sym (c .pre .action) ∙ c .in-Mark .is)) (c .pick .ensures .within) }
+    record {
+      row = mark-told m r t s (c .args .action) (c .pre .action) row (c .in-Mark .is) (c .pick .ensures .row);
+      held = mark-held m r t s (c .args .action) (c .pre .action) row (c .in-Mark .is) (c .pick .last .chooser) (c .pick .ensures .held);
+      writes = mark-writes m r t s (c .args .action) (c .pre .action) row (c .in-Mark .is)
+          (mark-inside r (c .pre .sound) (c .args .i) t h (c .pre .is) (c .pre .is-soft) (sym (c .pre .action) ∙ c .in-Mark .is)) (c .pick .ensures .within);
+    }
 
 pub returns-in-Wipe : need.returns-in-Wipe
 returns-in-Wipe g c =
@@ -56,7 +58,9 @@ returns-in-Wipe g c =
     let h : c .args .i < length (r .tickets) = let v = c .args .self .now .tickets .ok .0 in let w = c .pre .within in omega arith in
     let row = c .row-of .result in
     let e = c .row-of .ensures ∙ ap (rowOf (t .number)) (c .cells .ensures .is) in
-    record { row = wipe-told m r t s (c .args .action) (c .pre .action) row (c .in-Wipe .is) e
-           ; held = wipe-held m r t s (c .args .action) (c .pre .action) row (c .in-Wipe .is)
-           ; writes = wipe-writes m r t s (c .args .action) (c .pre .action) row (c .in-Wipe .is) e
-                 (wipe-row r (c .pre .sound) (c .args .i) t h (c .pre .is) (c .pre .is-soft) (sym (c .pre .action) ∙ c .in-Wipe .is)) }
+    record {
+      row = wipe-told m r t s (c .args .action) (c .pre .action) row (c .in-Wipe .is) e;
+      held = wipe-held m r t s (c .args .action) (c .pre .action) row (c .in-Wipe .is);
+      writes = wipe-writes m r t s (c .args .action) (c .pre .action) row (c .in-Wipe .is) e
+          (wipe-row r (c .pre .sound) (c .args .i) t h (c .pre .is) (c .pre .is-soft) (sym (c .pre .action) ∙ c .in-Wipe .is));
+    }

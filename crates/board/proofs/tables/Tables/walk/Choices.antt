@@ -8,5 +8,5 @@ use Rattle.board.proofs.tables.Tables.walk.Given as given
 abbrev pub Inv-loop-turn : given.InvT-loop-turn
 Inv-loop-turn l =
     (walkEnd (suc (l .self .columns) - l .-turn) (rackOf (l .self)) (ticketAt (rackOf (l .self)) (l .place))
-        ≡ walkEnd (suc (l .self .columns)) (rackOf (l .self)) (ticketAt (rackOf (l .self)) (l .from)))
+    ≡ walkEnd (suc (l .self .columns)) (rackOf (l .self)) (ticketAt (rackOf (l .self)) (l .from)))
     × (l .place < vec-len (l .self .tickets))
