@@ -10,6 +10,7 @@ use Rattle.std.specs.shelf.Lists.{All}
 use Rattle.std.proofs.shelf.Tests.{eqb-true, eq-eqb, ne-eqb, or-left, or-right}
 use Rattle.std.specs.declared.option.Option.{Option}
 use Rattle.std.specs.declared.option.Option.the-variants.{Some, None}
+use Rattle.std.proofs.shelf.Elements.{all-weaker}
 use Rattle.rules.specs.declared.ticket.Ticket.{Ticket}
 use Rattle.rules.specs.declared.ticket.Phase.{Phase}
 use Rattle.rules.specs.Lists.{unit, anyOf, countOf, find}
@@ -18,7 +19,6 @@ use Rattle.rules.specs.History.{Event, Reaches}
 use Rattle.rules.specs.Accounts.{takes, withdraws, denies, grants, returns, kinds, numbers}
 use Rattle.rules.specs.Accounts.{isTaken, isWithdrawn, isDenied, isGranted, isReturned, isStanding, isUndecided}
 use Rattle.rules.specs.Laws.{Books-balance, Tickets-match-history, No-grant-goes-back-twice}
-use Rattle.rules.proofs.Listing.{all-map}
 use Rattle.rules.specs.Sound.{Rising}
 use Rattle.rules.proofs.Cells.{any-count}
 use Rattle.rules.proofs.Kept.{sound}
@@ -66,7 +66,7 @@ numbers-taken : (h : List Event) → All (λ m. isTaken h m ≡ true) (numbers h
 numbers-taken [] = tt
 numbers-taken (Event.taken m q ∷ h) = (
   or-left (eqb m m) (isTaken h m) (eq-eqb m m refl),
-  all-map (λ n. isTaken h n ≡ true) (λ n. isTaken (Event.taken m q ∷ h) n ≡ true) (numbers h) (λ n. or-right (eqb m n) (isTaken h n)) (numbers-taken h),
+  all-weaker (λ n. isTaken h n ≡ true) (λ n. isTaken (Event.taken m q ∷ h) n ≡ true) (λ n. or-right (eqb m n) (isTaken h n)) (numbers h) (numbers-taken h),
 )
 numbers-taken (Event.stepped r ∷ h) = numbers-taken h
 numbers-taken (Event.collected m ∷ h) = numbers-taken h
@@ -85,7 +85,7 @@ books-balance h x r =
       taken-once = once;
       one-kind = one;
       counts = five-counts (isUndecided h) (isWithdrawn h) (isDenied h) (isStanding h) (isReturned h) (numbers h)
-          (all-map (λ n. isTaken h n ≡ true) (λ n. kinds h n ≡ 1) (numbers h) (λ n t. one n ∙ ap unit t) (numbers-taken h));
+          (all-weaker (λ n. isTaken h n ≡ true) (λ n. kinds h n ≡ 1) (λ n t. one n ∙ ap unit t) (numbers h) (numbers-taken h));
     }
   where
     one : (n : ℕ) → kinds h n ≡ unit (isTaken h n)

@@ -8,7 +8,7 @@ use native.Mathlib.Omega.{arith}
 use lib.Dec.{eqb, leb, ltb}
 use lib.ListN.{length, replicate}
 use Rattle.std.specs.shelf.Lists.{All}
-use Rattle.std.proofs.shelf.Elements.{all-append}
+use Rattle.std.proofs.shelf.Elements.{all-append, all-weaker}
 use Rattle.std.proofs.shelf.Lists.{length-push, length-replicate}
 use Rattle.std.proofs.shelf.Tests.{and-parts, eqb-true, eqb-false, leb-true, leb-false}
 use Rattle.std.proofs.shelf.Ways.{tells}
@@ -25,7 +25,7 @@ use Rattle.rules.specs.Rack.{Sizes, Rack, opened, soft, seeking, named, isVaca
 use Rattle.rules.specs.Step.{ahead, retreats, duty, actionOf, withPhase, withMarks, setsOut, redirect, wiped, after, worked, acted}
 use Rattle.rules.specs.Calls.{within, openable, lastNumber, booked, ticketFor, changed, withdrawn, returned}
 use Rattle.rules.specs.History.{Event, Reaches, New}
-use Rattle.rules.proofs.Listing.{In, Few, total-append, total-edit, find-in, all-in, all-edit, all-map, length-edit}
+use Rattle.rules.proofs.Listing.{In, Few, total-append, total-edit, find-in, all-in, all-edit, length-edit}
 use Rattle.rules.proofs.Tickets.{Same, after-same, after-few, withdrawn-same, withdrawn-few, rising-edit, rising-push}
 use Rattle.rules.proofs.Duties.{Says, says}
 use Rattle.rules.proofs.Effects.{Bookable, Effect, effect}
@@ -194,7 +194,7 @@ sound-edit x t f y s e few same fit z i n q h l a =
     later : (y .handbacks ≡ x .handbacks) ⊎ (y .handbacks ≡ suc (x .handbacks)) → All (Fit (x .sizes) (x .handbacks)) (edit (named (t .number)) f (x .tickets))
         → All (Fit (x .sizes) (y .handbacks)) (edit (named (t .number)) f (x .tickets))
     later (inl k) b = rw k b
-    later (inr k) b = rw k (all-map (Fit (x .sizes) (x .handbacks)) (Fit (x .sizes) (suc (x .handbacks))) (edit (named (t .number)) f (x .tickets)) (fit-later (x .sizes) (x .handbacks)) b)
+    later (inr k) b = rw k (all-weaker (Fit (x .sizes) (x .handbacks)) (Fit (x .sizes) (suc (x .handbacks))) (fit-later (x .sizes) (x .handbacks)) (edit (named (t .number)) f (x .tickets)) b)
 
 fit-of : (x : Rack) → Sound x → (t : Ticket) → find (named (t .number)) (x .tickets) ≡ Some t → Fit (x .sizes) (x .handbacks) t
 fit-of x s t f = all-in (Fit (x .sizes) (x .handbacks)) (x .tickets) t (s .fits) (find-in (named (t .number)) (x .tickets) t f .0)

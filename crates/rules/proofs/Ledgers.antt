@@ -7,7 +7,7 @@ use Prim.Native.Nat.{ℕ, suc, _+_, _≤_, _<_}
 use native.Mathlib.Omega.{arith}
 use lib.Dec.{eqb}
 use Rattle.std.specs.shelf.Lists.{All}
-use Rattle.std.proofs.shelf.Elements.{all-append, all-push}
+use Rattle.std.proofs.shelf.Elements.{all-append, all-push, all-weaker}
 use Rattle.std.proofs.shelf.Tests.{eqb-true, eqb-false, eq-eqb, ne-eqb, le-leb, lt-ltb, false≢true}
 use Rattle.std.proofs.shelf.Ways.{tells}
 use Rattle.std.specs.declared.option.Option.{Option}
@@ -25,9 +25,9 @@ use Rattle.rules.specs.Rack.{Rack, soft, hard, named, hasVacant}
 use Rattle.rules.specs.Step.{ahead, worked, actionOf, after, columnOf, rowTold, reportOf, acted, withPhase}
 use Rattle.rules.specs.Calls.{ticketFor, booked, changed, withdrawn, returned}
 use Rattle.rules.specs.History.{Event, Reaches}
-use Rattle.rules.specs.Ledger.{Entry, covers, loadOf, removed, requestOf, entered, ledger, Full, Gives, Gives-none}
-use Rattle.rules.specs.Laws.{Decides, Every-decision-is-the-ledgers-next-entry}
-use Rattle.rules.proofs.Listing.{In, some-inj, find-in, all-in, all-map, all-edit, total-le, total-edit}
+use Rattle.rules.specs.Ledger.{Entry, covers, loadOf, struck, requestOf, entered, ledger, Full, Gives, Gives-none}
+use Rattle.rules.specs.Laws.{Decided-rightly, Every-decision-is-the-ledgers-next-entry}
+use Rattle.rules.proofs.Listing.{In, some-inj, find-in, all-in, all-edit, total-le, total-edit}
 use Rattle.rules.proofs.Tickets.{Same, Between, rising-between, after-same, withdrawn-same}
 use Rattle.rules.proofs.Duties.{Says, says}
 use Rattle.rules.proofs.Effects.{Bookable, Effect, effect}
@@ -59,21 +59,21 @@ pub record Booked (h : List Event) (x : Rack) : Type 0 where
   pub listed : All (Listed (ledger h)) (x .tickets)
   pub agrees : (c : ℕ) → loadOf (ledger h) c ≡ bookedIn c (x .tickets)
 
--- an entry removed: the loads, and the other entries
-removed-edit : (n : ℕ) (es : List Entry) → removed n es ≡ edit (under n) (λ _. []) es
+-- an entry struck: the loads, and the other entries
+removed-edit : (n : ℕ) (es : List Entry) → struck n es ≡ edit (under n) (λ _. []) es
 removed-edit n [] = refl
 removed-edit n (e ∷ es) = ap (λ (k : List Entry). cond (eqb (e .number) n) es (e ∷ k)) (removed-edit n es)
 
-removed-load : (n c : ℕ) (es : List Entry) (e : Entry) → find (under n) es ≡ Some e → loadOf (removed n es) c + unit (covers (e .span) c) ≡ loadOf es c
+removed-load : (n c : ℕ) (es : List Entry) (e : Entry) → find (under n) es ≡ Some e → loadOf (struck n es) c + unit (covers (e .span) c) ≡ loadOf es c
 removed-load n c es e f =
     rw (removed-edit n es) (omega (arith, total-edit (λ k. unit (covers (k .span) c)) (under n) (λ _. []) es e f))
 
-other-at : (n m : ℕ) (e : Entry) (es : List Entry) (b : Bool) → eqb (e .number) m ≡ b → (n ≡ m → ⊥) → find (under n) (removed m es) ≡ find (under n) es
-    → find (under n) (cond b es (e ∷ removed m es)) ≡ find (under n) (e ∷ es)
+other-at : (n m : ℕ) (e : Entry) (es : List Entry) (b : Bool) → eqb (e .number) m ≡ b → (n ≡ m → ⊥) → find (under n) (struck m es) ≡ find (under n) es
+    → find (under n) (cond b es (e ∷ struck m es)) ≡ find (under n) (e ∷ es)
 other-at n m e es true p d ih = sym (rw (ne-eqb (e .number) n (λ k. d (sym k ∙ eqb-true (e .number) m p))) refl)
 other-at n m e es false p d ih = ap (λ (o : Option Entry). cond (eqb (e .number) n) (Some e) o) ih
 
-removed-other : (n m : ℕ) (es : List Entry) → (n ≡ m → ⊥) → find (under n) (removed m es) ≡ find (under n) es
+removed-other : (n m : ℕ) (es : List Entry) → (n ≡ m → ⊥) → find (under n) (struck m es) ≡ find (under n) es
 removed-other n m [] d = refl
 removed-other n m (e ∷ es) d = other-at n m e es (eqb (e .number) m) refl d (removed-other n m es d)
 
@@ -109,7 +109,7 @@ withdrawn-not-hard t = grind (arith, tells)
 
 -- a ticket that is not hard needs no entry
 not-listed : (es : List Entry) (us : List Ticket) → All (λ u. hard (u .phase) ≡ false) us → All (Listed es) us
-not-listed es us a = all-map (λ u. hard (u .phase) ≡ false) (Listed es) us (λ u p q. absurd (false≢true (sym p ∙ q))) a
+not-listed es us a = all-weaker (λ u. hard (u .phase) ≡ false) (Listed es) (λ u p q. absurd (false≢true (sym p ∙ q))) us a
 
 module _ (x : Rack) (w : Ticket) (row : ℕ) (h : List Event) (es : List Entry) where
   -- what a step tells if it does this action
@@ -146,7 +146,7 @@ module _ (x : Rack) (w : Ticket) (row : ℕ) (h : List Event) (es : List Entry) 
   entered-other action.Wall n d = refl
 
 asked-same : (h : List Event) (t : Ticket) (us : List Ticket) → Asked h t → All (Same t) us → All (Asked h) us
-asked-same h t us k a = all-map (Same t) (Asked h) us (λ u s. rw (s .0) (k ∙ sym (s .1))) a
+asked-same h t us k a = all-weaker (Same t) (Asked h) (λ u s. rw (s .0) (k ∙ sym (s .1))) us a
 
 asked-edit : (h : List Event) (ts : List Ticket) (t : Ticket) (f : Ticket → List Ticket) → find (named (t .number)) ts ≡ Some t → All (Same t) (f t)
     → All (Asked h) ts → All (Asked h) (edit (named (t .number)) f ts)
@@ -199,7 +199,7 @@ booked-returned h x t sd f e b =
     let own : find (under n) (ledger h) ≡ Some (entryFor t) = all-in (Listed (ledger h)) (x .tickets) t (b .listed) i (ap hard e) in
     record {
       asked = asked-edit h (x .tickets) t g f ((refl, refl), tt) (b .asked);
-      listed = edit-rest (Listed (ledger h)) (Listed (removed n (ledger h))) n (x .first) (x .next) g (x .tickets) t (sd .rising) f
+      listed = edit-rest (Listed (ledger h)) (Listed (struck n (ledger h))) n (x .first) (x .next) g (x .tickets) t (sd .rising) f
           (λ u d p k. removed-other (u .number) n (ledger h) d ∙ p k) ((λ k. absurd (false≢true k)), tt) (b .listed);
       agrees = λ c.
           let p = removed-load n c (ledger h) (entryFor t) own in
@@ -265,7 +265,7 @@ module _ (h : List Event) (x : Rack) (w : Ticket) (row : ℕ) (sd : Sound x) (k 
       (r .0, r .1, r .2, let i = b .agrees (r .0) in let j = r .3 in omega arith)
 
   -- so a report that decides tells what the ledger gives
-  decides : (vacant : Bool) (a : Action) → Says (x .sizes) (x .handbacks) vacant w a → Decides (x .sizes) (told x w row h (ledger h) a) a h
+  decides : (vacant : Bool) (a : Action) → Says (x .sizes) (x .handbacks) vacant w a → Decided-rightly (x .sizes) (told x w row h (ledger h) a) a h
   decides vacant action.Wipe y = tt
   decides vacant action.Over y = tt
   decides vacant action.Without y =

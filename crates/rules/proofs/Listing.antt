@@ -81,10 +81,6 @@ module _ {X : Type 0} where
   all-in P (y ∷ ys) x a (inl e) = rw e at (a .0)
   all-in P (y ∷ ys) x a (inr i) = all-in P ys x (a .1) i
 
-  pub all-map : (P Q : X → Type 0) (xs : List X) → ((x : X) → P x → Q x) → All P xs → All Q xs
-  all-map P Q [] k a = tt
-  all-map P Q (x ∷ xs) k a = (k x (a .0), all-map P Q xs k (a .1))
-
   all-edit-at : (P : X → Type 0) (p : X → Bool) (f : X → List X) (y : X) (ys : List X) (x : X) (b : Bool)
       → (find p ys ≡ Some x → All P (edit p f ys)) → All P (f x) → P y → All P ys
       → cond b (Some y) (find p ys) ≡ Some x → All P (cond b (f y ++ ys) (y ∷ edit p f ys))

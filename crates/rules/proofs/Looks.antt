@@ -73,13 +73,6 @@ sees-mark x s c h t i =
     at n false e = rw e refl
 
 -- a cell is booked as often as it holds the mark of a ticket that is hard: once, or not at all
-none-hard : (n lo hi : ℕ) (ts : List Ticket) → Rising lo hi ts → n < lo → anyOf (λ t. named n t && hard (t .phase)) ts ≡ false
-none-hard n lo hi [] r l = refl
-none-hard n lo hi (t ∷ ts) r l =
-    let k = r .0 in
-    let q : named n t ≡ false = ne-eqb (t .number) n (λ e. omega arith) in
-    rw q (none-hard n (suc (t .number)) hi ts (r .1) (omega arith))
-
 hard-once-at : (n lo hi : ℕ) (t : Ticket) (ts : List Ticket) (b h : Bool) → named n t ≡ b → Rising lo hi (t ∷ ts)
     → unit (anyOf (λ u. named n u && hard (u .phase)) ts) ≡ total (λ u. unit (named n u && hard (u .phase))) ts
     → unit ((b && h) || anyOf (λ u. named n u && hard (u .phase)) ts) ≡ unit (b && h) + total (λ u. unit (named n u && hard (u .phase))) ts

@@ -11,7 +11,7 @@ use Rattle.std.specs.declared.option.Option.{Option}
 use Rattle.std.specs.declared.option.Option.the-variants.{Some, None}
 use Rattle.rules.specs.declared.ticket.Request.{Request}
 use Rattle.rules.specs.Rack.{Sizes}
-use Rattle.rules.specs.Ledger.{Entry, loadOf, Full, Gives, Gives-none, Answers, roomy, search-from, Ledger-gives-one-answer, Search-finds-the-ledgers-answer}
+use Rattle.rules.specs.Ledger.{Entry, loadOf, Full, Gives, Gives-none, Answers, roomy, firstFit, Ledger-gives-one-answer, Search-finds-the-ledgers-answer}
 
 module _ (z : Sizes) (es : List Entry) where
   -- a window with room in each column has no full one
@@ -63,11 +63,11 @@ module _ (z : Sizes) (es : List Entry) where
       at k p r (inr l) = let j : g ≡ k = omega arith in subst (λ (i : ℕ). Full z es i (q .length)) j t
 
   searched : (q : Request) (g n : ℕ) → q .start ≤ g → z .columns < g + q .length + n → (1 ≤ n → g + q .length + n ≡ suc (z .columns))
-      → ((k : ℕ) → q .start ≤ k → k < g → Full z es k (q .length)) → Answers z es q (search-from z es (q .length) g n)
+      → ((k : ℕ) → q .start ≤ k → k < g → Full z es k (q .length)) → Answers z es q (firstFit z es (q .length) g n)
   searched q g zero s l e full = λ k p r. full k p (omega arith)
   searched q g (suc n) s l e full =
       let k = e (omega arith) in
-      search-at q g n (roomy z es g (q .length)) (search-from z es (q .length) (suc g) n) s k full (tested g (q .length))
+      search-at q g n (roomy z es g (q .length)) (firstFit z es (q .length) (suc g) n) s k full (tested g (q .length))
       (λ more. searched q (suc g) n (omega arith) (omega arith) (λ _. omega arith) more)
 
 pub search-answers : Search-finds-the-ledgers-answer

@@ -7,7 +7,7 @@ use Prim.Native.Nat.{ℕ, suc, _+_, _≤_, _<_}
 use native.Mathlib.Omega.{arith}
 use lib.Dec.{eqb}
 use Rattle.std.specs.shelf.Lists.{All}
-use Rattle.std.proofs.shelf.Elements.{all-push}
+use Rattle.std.proofs.shelf.Elements.{all-push, all-weaker}
 use Rattle.std.proofs.shelf.Tests.{ltb-false, cases-lt}
 use Rattle.std.proofs.shelf.Ways.{tells}
 use Rattle.std.specs.declared.option.Option.the-variants.{Some}
@@ -22,7 +22,7 @@ use Rattle.rules.specs.Rack.{Sizes, Rack, soft, hard, seeking, named, hasVacan
 use Rattle.rules.specs.Step.{ahead, worked, duty, actionOf, after, acted, withPhase}
 use Rattle.rules.specs.Calls.{ticketFor, booked, changed, withdrawn, returned}
 use Rattle.rules.specs.History.{Event, Reaches}
-use Rattle.rules.proofs.Listing.{all-in, all-map, all-edit, total-append, total-edit}
+use Rattle.rules.proofs.Listing.{all-in, all-edit, total-append, total-edit}
 use Rattle.rules.proofs.Duties.{Says, says}
 use Rattle.rules.proofs.Effects.{Effect, effect}
 use Rattle.rules.specs.Sound.{Fit, Sound, marksIn, load, bookedIn}
@@ -178,8 +178,8 @@ module _ (x : Rack) (sd : Sound x) (w : Ticket) (k : Works x w) where
   passed-after p =
       let vacant = hasVacant x (ahead w) in
       let y = says (x .sizes) (x .handbacks) vacant w (k .is-soft) in
-      all-map (Onward w (limit (actionOf x w) w)) (Passed (x .sizes) (x .handbacks) (x .tickets)) (after (x .handbacks) (actionOf x w) w)
-      (λ u o. passed-onward (x .sizes) (x .handbacks) (x .tickets) w (limit (actionOf x w) w) u (walled-limit (actionOf x w) y p) o)
+      all-weaker (Onward w (limit (actionOf x w) w)) (Passed (x .sizes) (x .handbacks) (x .tickets)) (λ u o. passed-onward (x .sizes) (x .handbacks) (x .tickets) w (limit (actionOf x w) w) u (walled-limit (actionOf x w) y p) o)
+      (after (x .handbacks) (actionOf x w) w)
       (onward (x .sizes) (x .handbacks) vacant w (k .is-soft))
 
 -- of all tickets of a rack
@@ -187,7 +187,7 @@ abbrev pub All-passed : Rack → Type 0
 All-passed x = All (Passed (x .sizes) (x .handbacks) (x .tickets)) (x .tickets)
 
 passed-grown : (z : Sizes) (n : ℕ) (ts us : List Ticket) → ((c : ℕ) → bookedIn c ts ≤ bookedIn c us) → All (Passed z n ts) us → All (Passed z n us) us
-passed-grown z n ts us m a = all-map (Passed z n ts) (Passed z n us) us (λ t p. passed-more z n ts us t m p) a
+passed-grown z n ts us m a = all-weaker (Passed z n ts) (Passed z n us) (λ t p. passed-more z n ts us t m p) us a
 
 none-passed : (z : Sizes) (ts : List Ticket) (q : Request) → Walled z ts q 0
 none-passed z ts q g a b = absurd (omega arith)
@@ -229,8 +229,8 @@ walls-step x _ _ sd p (Effect.backs t f e) =
     let y = returned x t in
     all-edit (Passed (x .sizes) (suc (x .handbacks)) (y .tickets)) (named (t .number)) (λ u. withPhase Closing u ∷ []) (x .tickets) t f
     ((λ _. none-passed (x .sizes) (y .tickets) (t .request)), tt)
-    (all-map (Fit (x .sizes) (x .handbacks)) (Passed (x .sizes) (suc (x .handbacks)) (y .tickets)) (x .tickets)
-    (λ u k. passed-later (x .sizes) (x .handbacks) (y .tickets) u (k .noted)) (sd .fits))
+    (all-weaker (Fit (x .sizes) (x .handbacks)) (Passed (x .sizes) (suc (x .handbacks)) (y .tickets)) (λ u k. passed-later (x .sizes) (x .handbacks) (y .tickets) u (k .noted))
+    (x .tickets) (sd .fits))
 
 -- a ticket that has seen the last hand-back has a wall in each window that it has passed by
 pub walls : (h : List Event) (x : Rack) → Reaches h x → All-passed x

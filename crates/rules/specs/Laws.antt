@@ -53,19 +53,19 @@ abbrev pub No-grant-goes-back-twice : List Event → Type 0
 No-grant-goes-back-twice h = (n : ℕ) → countOf (returns n) h ≤ 1
 
 -- a report that decides tells what the ledger of the history before it gives: a grant its column, a without nothing
-abbrev pub Decides : Sizes → Report → Action → List Event → Type 0
-Decides z r action.Grant h = Answers z (ledger h) (requestOf (r .number) h) (Some (r .column))
-Decides z r action.Without h = Answers z (ledger h) (requestOf (r .number) h) None
-Decides z r action.Wipe h = Unit
-Decides z r action.Over h = Unit
-Decides z r action.Mark h = Unit
-Decides z r action.Wall h = Unit
+abbrev pub Decided-rightly : Sizes → Report → Action → List Event → Type 0
+Decided-rightly z r action.Grant h = Answers z (ledger h) (requestOf (r .number) h) (Some (r .column))
+Decided-rightly z r action.Without h = Answers z (ledger h) (requestOf (r .number) h) None
+Decided-rightly z r action.Wipe h = Unit
+Decided-rightly z r action.Over h = Unit
+Decided-rightly z r action.Mark h = Unit
+Decided-rightly z r action.Wall h = Unit
 
 -- so does every report of the history
 abbrev pub Every-decision-is-the-ledgers-next-entry : Sizes → List Event → Type 0
 Every-decision-is-the-ledgers-next-entry z [] = Unit
 Every-decision-is-the-ledgers-next-entry z (Event.taken m q ∷ h) = Every-decision-is-the-ledgers-next-entry z h
-Every-decision-is-the-ledgers-next-entry z (Event.stepped r ∷ h) = Decides z r (r .action) h × Every-decision-is-the-ledgers-next-entry z h
+Every-decision-is-the-ledgers-next-entry z (Event.stepped r ∷ h) = Decided-rightly z r (r .action) h × Every-decision-is-the-ledgers-next-entry z h
 Every-decision-is-the-ledgers-next-entry z (Event.collected m ∷ h) = Every-decision-is-the-ledgers-next-entry z h
 Every-decision-is-the-ledgers-next-entry z (Event.dropped m ∷ h) = Every-decision-is-the-ledgers-next-entry z h
 Every-decision-is-the-ledgers-next-entry z (Event.returned m ∷ h) = Every-decision-is-the-ledgers-next-entry z h

@@ -29,9 +29,9 @@ abbrev pub loadOf : List Entry → ℕ → ℕ
 loadOf es c = countOf (λ e. covers (e .span) c) es
 
 -- a back entry removes the span of its booking
-abbrev pub removed : ℕ → List Entry → List Entry
-removed n [] = []
-removed n (e ∷ es) = cond (eqb (e .number) n) es (e ∷ removed n es)
+abbrev pub struck : ℕ → List Entry → List Entry
+struck n [] = []
+struck n (e ∷ es) = cond (eqb (e .number) n) es (e ∷ struck n es)
 
 -- what booking n asked for, by the history
 abbrev pub requestOf : ℕ → List Event → Request
@@ -58,7 +58,7 @@ ledger (Event.taken m q ∷ h) = ledger h
 ledger (Event.stepped r ∷ h) = entered r (r .action) h (ledger h)
 ledger (Event.collected m ∷ h) = ledger h
 ledger (Event.dropped m ∷ h) = ledger h
-ledger (Event.returned m ∷ h) = removed m (ledger h)
+ledger (Event.returned m ∷ h) = struck m (ledger h)
 
 -- some column of the window of this length from g on is full
 abbrev pub Full : Sizes → List Entry → ℕ → ℕ → Type 0
@@ -87,13 +87,13 @@ roomy z es c zero = true
 roomy z es c (suc n) = ltb (loadOf es c) (z .rows) && roomy z es (suc c) n
 
 -- the first of n columns from g on where a window of this length has room
-abbrev pub search-from : Sizes → List Entry → ℕ → ℕ → ℕ → Option ℕ
-search-from z es length g zero = None
-search-from z es length g (suc n) = cond (roomy z es g length) (Some g) (search-from z es length (suc g) n)
+abbrev pub firstFit : Sizes → List Entry → ℕ → ℕ → ℕ → Option ℕ
+firstFit z es length g zero = None
+firstFit z es length g (suc n) = cond (roomy z es g length) (Some g) (firstFit z es length (suc g) n)
 
 -- what the ledger gives: from the start on, this many first columns leave the window within the board
 abbrev pub given : Sizes → List Entry → Request → Option ℕ
-given z es q = search-from z es (q .length) (q .start) (suc (z .columns) - (q .start + q .length))
+given z es q = firstFit z es (q .length) (q .start) (suc (z .columns) - (q .start + q .length))
 
 -- the ledger gives a request one answer: no two first columns, and not both a column and nothing
 abbrev pub Ledger-gives-one-answer : Type 0
