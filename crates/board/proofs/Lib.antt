@@ -14,3 +14,5 @@ pub mod Filling
 pub mod LeastPicked
 pub mod Promising
 pub mod Running
+pub mod Tallying
+pub mod Auditing

@@ -1,5 +1,6 @@
 //! The slot board: tables of tickets and slots, the steps that work on them, and the calls.
 mod act;
+pub mod audit;
 pub mod board;
 mod calls;
 pub mod chooser;
