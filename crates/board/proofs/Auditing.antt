@@ -54,11 +54,11 @@ pub by-call : {S : Type 0} (m : Meaning S) (x y : Rack) (c d : Contents Report) 
     → u ≡ record { call = t .call; chooser = called m x c (t .chooser) k .held } → d ≡ called m x c (t .chooser) k .journal
     → (n ≡ countOf isDrop (turned m x c t .events)) × (y ≡ turned m x c t .rack) × (u ≡ used m x c t) × (d ≡ turned m x c t .journal)
 by-call m x y c d t u k n is a b e f =
-    let o : turned m x c t ≡ called m x c (t .chooser) k = ap (called m x c (t .chooser)) is in
-    ( a ∙ sym (ap (λ v. countOf isDrop (v .events)) o)
-    , b ∙ sym (ap (λ v. v .rack) o)
-    , e ∙ sym (ap (λ v. record { call = t .call; chooser = v .held }) o)
-    , f ∙ sym (ap (λ v. v .journal) o)
+    let o : turned m x c t ≡ called m x c (t .chooser) k = ap (called m x c (t .chooser)) is in (
+      a ∙ sym (ap (λ v. countOf isDrop (v .events)) o),
+      b ∙ sym (ap (λ v. v .rack) o),
+      e ∙ sym (ap (λ v. record { call = t .call; chooser = v .held }) o),
+      f ∙ sym (ap (λ v. v .journal) o),
     )
 
 pub one-told : (n : ℕ) (r : Result (Unit {0}) Refusal) → boolByte (isOk r) ≡ countOf isDrop (told (λ _. Event.dropped n) r)
@@ -101,13 +101,13 @@ module _ {S : Type 0} (m : Meaning S) where
       → played m p (drop i ts) ≡ end → take i ts ++ allUsed m p (drop i ts) ≡ whole
       → (played m (after m p t) (drop (i + 1) (set ts i u)) ≡ end) × (take (i + 1) (set ts i u) ++ allUsed m (after m p t) (drop (i + 1) (set ts i u)) ≡ whole)
   turn-more p end ts whole i t u l d f a b =
-      let o : drop (i + 1) (set ts i u) ≡ drop (i + 1) ts = drop-set-lt (i + 1) ts i u (omega arith) in
-      ( ap (played m (after m p t)) o ∙ (sym (ap (played m p) d) ∙ a)
-      , ap (λ v. take (i + 1) (set ts i u) ++ allUsed m (after m p t) v) o
-        ∙ (ap (λ v. v ++ allUsed m (after m p t) (drop (i + 1) ts)) (take-more-set ts i u l)
-        ∙ (append-assoc (take i ts) (u ∷ []) (allUsed m (after m p t) (drop (i + 1) ts))
-        ∙ (ap (λ v. take i ts ++ (v ∷ allUsed m (after m p t) (drop (i + 1) ts))) f
-        ∙ (sym (ap (λ v. take i ts ++ allUsed m p v) d) ∙ b))))
+      let o : drop (i + 1) (set ts i u) ≡ drop (i + 1) ts = drop-set-lt (i + 1) ts i u (omega arith) in (
+        ap (played m (after m p t)) o ∙ (sym (ap (played m p) d) ∙ a),
+        ap (λ v. take (i + 1) (set ts i u) ++ allUsed m (after m p t) v) o
+            ∙ (ap (λ v. v ++ allUsed m (after m p t) (drop (i + 1) ts)) (take-more-set ts i u l)
+            ∙ (append-assoc (take i ts) (u ∷ []) (allUsed m (after m p t) (drop (i + 1) ts))
+            ∙ (ap (λ v. take i ts ++ (v ∷ allUsed m (after m p t) (drop (i + 1) ts))) f
+            ∙ (sym (ap (λ v. take i ts ++ allUsed m p v) d) ∙ b)))),
       )
 
   -- some history leads to this rack and tells n withdrawals; from there the rest gives that end, and with the turns done the whole
@@ -140,12 +140,12 @@ module _ {S : Type 0} (m : Meaning S) where
         → (h : List Event) × Reaches h x × (n ≡ countOf isDrop h) × (_≡_ {A = Scene} (record { history = h; rack = x; journal = c }) end) × (ts ≡ whole)
     leaves-all x c n ts i l (h, r, w, a, b) =
         let p : Scene = record { history = h; rack = x; journal = c } in
-        let d = drop-all i ts l in
-        ( h
-        , r
-        , w
-        , sym (ap (played m p) d) ∙ a
-        , sym (take-all i ts l) ∙ (sym (append-nil (take i ts)) ∙ (sym (ap (λ v. take i ts ++ allUsed m p v) d) ∙ b))
+        let d = drop-all i ts l in (
+          h,
+          r,
+          w,
+          sym (ap (played m p) d) ∙ a,
+          sym (take-all i ts l) ∙ (sym (append-nil (take i ts)) ∙ (sym (ap (λ v. take i ts ++ allUsed m p v) d) ∙ b)),
         )
 
 -- the figures that a rack gives, with the withdrawals of its history
@@ -174,7 +174,7 @@ module _ (h : List Event) (x : Rack) (n : ℕ) (r : Reaches h x) (w : n ≡ coun
     where
       alike : {a b c d e f a′ b′ c′ d′ e′ f′ : ℕ} → a ≡ a′ → b ≡ b′ → c ≡ c′ → d ≡ d′ → e ≡ e′ → f ≡ f′
           → _≡_ {A = Accounts} (record { taken = a; undecided = b; withdrawn = c; without = d; standing = e; returned = f })
-            (record { taken = a′; undecided = b′; withdrawn = c′; without = d′; standing = e′; returned = f′ })
+          (record { taken = a′; undecided = b′; withdrawn = c′; without = d′; standing = e′; returned = f′ })
       alike p q s t u v = rw (p, q, s, t, u, v) refl
 
 -- the opening
@@ -202,38 +202,42 @@ module _ {S : Type 0} (m : Meaning S) (x : Rack) (z : Sizes) (first : ℕ) (c : 
   audit-none p = rw p refl
 
   audit-some : openable z first ≡ true
-      → audited m x z first c ts ≡ record { answer = Ok (accountsOf (historyOf m z first c ts)); rack = played m (opening m z first c) ts .rack
-                                           ; turns = allUsed m (opening m z first c) ts; journal = played m (opening m z first c) ts .journal }
+      → audited m x z first c ts ≡ record {
+        answer = Ok (accountsOf (historyOf m z first c ts));
+        rack = played m (opening m z first c) ts .rack;
+        turns = allUsed m (opening m z first c) ts;
+        journal = played m (opening m z first c) ts .journal;
+      }
   audit-some p = rw p refl
 
   pub leaves-none : (y : Rack) → Ok tt ≡ open′ x z first .answer → y ≡ open′ x z first .rack → Reaches [] y
       → Leaves m y c 0 [] ts (played m (opening m z first c) ts) (allUsed m (opening m z first c) ts)
   leaves-none y a e r =
       let o : open′ x z first .rack ≡ opened z first = let p = opened-with x z first a in rw p refl in
-      let q : y ≡ opened z first = e ∙ o in
-      ( []
-      , r
-      , refl
-      , ap (λ (v : Rack). played m (record { history = []; rack = v; journal = c }) ts) q
-      , ap (λ (v : Rack). allUsed m (record { history = []; rack = v; journal = c }) ts) q
+      let q : y ≡ opened z first = e ∙ o in (
+        [],
+        r,
+        refl,
+        ap (λ (v : Rack). played m (record { history = []; rack = v; journal = c }) ts) q,
+        ap (λ (v : Rack). allUsed m (record { history = []; rack = v; journal = c }) ts) q,
       )
 
   pub audit-ends : (y : Rack) (d : Contents Report) (n : ℕ) (us : List (Turn S)) (i : ℕ) (a : Accounts) → Ok tt ≡ open′ x z first .answer → a ≡ countedOn y n → length us ≤ i
       → Leaves m y d n (take i us) (drop i us) (played m (opening m z first c) ts) (allUsed m (opening m z first c) ts)
       → (Ok a ≡ audited m x z first c ts .answer) × (y ≡ audited m x z first c ts .rack) × (us ≡ audited m x z first c ts .turns) × (d ≡ audited m x z first c ts .journal)
-        × ((b : Accounts) → _≡_ {A = Result Accounts Refusal} (Ok a) (Ok b) → Accounted (historyOf m z first c ts) y b)
+      × ((b : Accounts) → _≡_ {A = Result Accounts Refusal} (Ok a) (Ok b) → Accounted (historyOf m z first c ts) y b)
   audit-ends y d n us i a o f l k =
       let e = leaves-all m (played m (opening m z first c) ts) (allUsed m (opening m z first c) ts) y d n us i l k in
       let h = e .0 in
       let g : h ≡ historyOf m z first c ts = ap (λ (p : Scene). p .history) (e .3) in
       let s = audit-some (opened-with x z first o) in
       let q : a ≡ accountsOf (historyOf m z first c ts) = f ∙ (figures h y n (e .1) (e .2) ∙ ap accountsOf g) in
-      let r : Reaches (historyOf m z first c ts) y = subst (λ (v : List Event). Reaches v y) g (e .1) in
-      ( ap Ok q ∙ sym (ap (λ v. v .answer) s)
-      , ap (λ (p : Scene). p .rack) (e .3) ∙ sym (ap (λ v. v .rack) s)
-      , e .4 ∙ sym (ap (λ v. v .turns) s)
-      , ap (λ (p : Scene). p .journal) (e .3) ∙ sym (ap (λ v. v .journal) s)
-      , λ b t. accounted (historyOf m z first c ts) y b r (sym (ok-inj a b t) ∙ q)
+      let r : Reaches (historyOf m z first c ts) y = subst (λ (v : List Event). Reaches v y) g (e .1) in (
+        ap Ok q ∙ sym (ap (λ v. v .answer) s),
+        ap (λ (p : Scene). p .rack) (e .3) ∙ sym (ap (λ v. v .rack) s),
+        e .4 ∙ sym (ap (λ v. v .turns) s),
+        ap (λ (p : Scene). p .journal) (e .3) ∙ sym (ap (λ v. v .journal) s),
+        λ b t. accounted (historyOf m z first c ts) y b r (sym (ok-inj a b t) ∙ q),
       )
     where
       ok-inj : (a b : Accounts) → _≡_ {A = Result Accounts Refusal} (Ok a) (Ok b) → a ≡ b

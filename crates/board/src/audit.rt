@@ -113,13 +113,29 @@ fn accounts_on(board: &Board, withdrawn: u32) -> Accounts
     let taken = tables.next - tables.first;
     let (undecided, standing) = seeking_and_hard(&tables.tickets);
     let returned = tables.handbacks;
-    Accounts { taken, undecided, withdrawn, without: taken - undecided - withdrawn - standing - returned, standing, returned }
+    Accounts {
+        taken,
+        undecided,
+        withdrawn,
+        without: taken - undecided - withdrawn - standing - returned,
+        standing,
+        returned,
+    }
 }
 
 /// Opens the board, plays the turns in order, and answers the accounts of what they told. A refused
 /// opening changes nothing; nor does a refused turn, and the next one follows it. All drives enter
 /// their reports into the one journal, which is never emptied.
-pub fn audit<C: Chooser>(board: &mut Board, rows: u32, columns: u32, places: u32, lead: u32, first: u32, turns: &mut [Turn<C>], journal: &mut Journal<Report>) -> Result<Accounts, Refusal>
+pub fn audit<C: Chooser>(
+    board: &mut Board,
+    rows: u32,
+    columns: u32,
+    places: u32,
+    lead: u32,
+    first: u32,
+    turns: &mut [Turn<C>],
+    journal: &mut Journal<Report>,
+) -> Result<Accounts, Refusal>
     ensures answer { λ r. ⌜ r ≡ audited (C·Chooser .meaning) (rackIn (now (board .entry))) (record { rows = rows; columns = columns; places = places; lead = lead }) first (contentsOf (now (journal .entry))) (now (turns .entry)) .answer ⌝ }
     ensures rack { λ _. ⌜ rackIn (now (board .exit)) ≡ audited (C·Chooser .meaning) (rackIn (now (board .entry))) (record { rows = rows; columns = columns; places = places; lead = lead }) first (contentsOf (now (journal .entry))) (now (turns .entry)) .rack ⌝ }
     ensures turns { λ _. ⌜ now (turns .exit) ≡ audited (C·Chooser .meaning) (rackIn (now (board .entry))) (record { rows = rows; columns = columns; places = places; lead = lead }) first (contentsOf (now (journal .entry))) (now (turns .entry)) .turns ⌝ }

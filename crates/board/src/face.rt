@@ -4,7 +4,7 @@ ghost use mathlib.Core.List.{[]};
 ghost use Rattle.std.specs.Vec.{made};
 ghost use Rattle.std.specs.declared.result.Result.the-variants.{Ok};
 ghost use Rattle.rules.specs.Rack.{neverOpened};
-ghost use Rattle.rules.specs.Calls.{open′ as openCall, book as bookCall, step as stepCall, collect as collectCall, drop′ as dropCall, back as backCall, row as rowCall, show as showCall};
+ghost use Rattle.rules.specs.Calls.{open′ as openCall, book as bookCall, step as stepCall, collect as collectCall, drop′ as dropCall, back as backCall, row as rowCall, show as showCall, stageAt};
 ghost use Rattle.rules.specs.History.{Event, Reaches};
 ghost use Rattle.rules.specs.Laws.{told, Carries};
 ghost use Rattle.board.specs.Face.{rackIn};
@@ -16,6 +16,7 @@ use rules::report::Report;
 use rules::slot::Slot;
 use rules::span::Span;
 use rules::ticket::Request;
+use rules::ticket::Stage;
 use std::alloc::AllocError;
 use std::alloc::Global;
 
@@ -106,6 +107,13 @@ impl Board {
         ensures history { λ r. ⌜ Carries (told (λ _. Event.returned number) r) (rackIn (now (self .entry))) (rackIn (now (self .exit))) ⌝ }
     {
         self.tables.back(number)
+    }
+
+    /// The stage that a number is in: idle where no ticket has it. Nothing changes.
+    pub fn stage(&self, number: u32) -> Stage
+        ensures { λ r. ⌜ r ≡ stageAt (rackIn (now (self .entry))) number ⌝ }
+    {
+        self.tables.stage(number)
     }
 
     /// The row marked in the window's column at this offset. Nothing changes.

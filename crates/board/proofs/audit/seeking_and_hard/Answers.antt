@@ -4,9 +4,9 @@ use Rattle.board.proofs.audit.seeking_and_hard.Needs as need
 
 pub loop-i-again : need.loop-i-again
 loop-i-again c =
-    let ts = c .args .tickets .now in let i = c .loop-i .-i in let v = c .loop-i .inv in let l = c .loop-i-test .taken in
-    ( ticket-more (λ t. seeking (t .phase)) ts i _ _ _ l (c .is-seeking .ensures) (c .from-seeking .ensures) (v .0)
-    , ticket-more (λ t. hard (t .phase)) ts i _ _ _ l (c .is-hard .ensures) (c .from-hard .ensures) (v .1)
+    let ts = c .args .tickets .now in let i = c .loop-i .-i in let v = c .loop-i .inv in let l = c .loop-i-test .taken in (
+      ticket-more (λ t. seeking (t .phase)) ts i _ _ _ l (c .is-seeking .ensures) (c .from-seeking .ensures) (v .0),
+      ticket-more (λ t. hard (t .phase)) ts i _ _ _ l (c .is-hard .ensures) (c .from-hard .ensures) (v .1),
     )
 
 pub returns : need.returns
