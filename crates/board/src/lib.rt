@@ -1,4 +1,6 @@
 //! The slot board: tables of tickets and slots, the steps that work on them, and the calls.
+#![tactic(auto)]
+
 mod act;
 pub mod audit;
 pub mod board;

@@ -1,4 +1,2 @@
-mod Naming
-mod Obeying
-mod Replying
-mod Settling
+mod Framing
+mod Paging

@@ -1,6 +1,6 @@
-pub mod Answers
-pub mod Calls
-pub mod Orders
-pub mod Replies
+pub mod Faults
+pub mod Frames
+pub mod Lines
+pub mod Pages
 pub mod Sessions
 pub mod Verbs

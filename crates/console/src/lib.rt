@@ -1,7 +1,9 @@
 //! The console: lines in, answers on a page, faults that say where.
-pub mod answer;
-pub mod call;
-pub mod order;
-pub mod reply;
+#![tactic(auto)]
+
+pub mod fault;
+pub mod frame;
+pub mod line;
+pub mod page;
 pub mod session;
 pub mod verb;

@@ -1,9 +1,6 @@
 //! The words that a line can begin with.
 ghost use Rattle.std.specs.Prelude.{◌≡◌};
-ghost use Rattle.console.specs.Verbs.{verb_word, verb_figures, verb_of, Names};
-
-use text::figures::Figures;
-use text::head::Head;
+ghost use Rattle.console.specs.Verbs.{verb_word, verb_figures, Names};
 
 /// What a line asks for.
 #[derive(Clone, Copy, PartialEq, Eq, Debug)]
@@ -18,34 +15,51 @@ pub enum Verb {
     Show,
 }
 
-/// The verb that has this word.
-fn verb_of(text: &[u8]) -> Option<Verb>
-    ensures { Names text.now result }
-{
-    match text {
-        b"open" => Some(Verb::Open),
-        b"book" => Some(Verb::Book),
-        b"step" => Some(Verb::Step),
-        b"drive" => Some(Verb::Drive),
-        b"collect" => Some(Verb::Collect),
-        b"drop" => Some(Verb::Drop),
-        b"back" => Some(Verb::Back),
-        b"show" => Some(Verb::Show),
-        _ => None,
-    }
+/// How many figures may follow a verb: `least` to `most`.
+#[derive(Clone, Copy, PartialEq, Eq, Debug)]
+pub struct Figures {
+    pub least: u32,
+    pub most: u32,
 }
 
-/// A console line begins with a verb.
-impl Head for Verb {
-    ghost spelled = { verb_of };
-
-    ghost wants = { verb_figures };
-
-    fn named(text: &[u8]) -> Option<Verb> {
-        verb_of(text)
+impl Verb {
+    /// The verb that has this word.
+    pub fn named(text: &[u8]) -> Option<Verb>
+        ensures { Names text.now result }
+    {
+        match text {
+            b"open" => Some(Verb::Open),
+            b"book" => Some(Verb::Book),
+            b"step" => Some(Verb::Step),
+            b"drive" => Some(Verb::Drive),
+            b"collect" => Some(Verb::Collect),
+            b"drop" => Some(Verb::Drop),
+            b"back" => Some(Verb::Back),
+            b"show" => Some(Verb::Show),
+            _ => None,
+        }
     }
 
-    fn figures(self) -> Figures {
+    /// The verb's word, the first field of its line.
+    pub fn word(self) -> &'static [u8]
+        ensures { result.now ≡ verb_word self }
+    {
+        match self {
+            Verb::Open => b"open",
+            Verb::Book => b"book",
+            Verb::Step => b"step",
+            Verb::Drive => b"drive",
+            Verb::Collect => b"collect",
+            Verb::Drop => b"drop",
+            Verb::Back => b"back",
+            Verb::Show => b"show",
+        }
+    }
+
+    /// The figures that follow its word.
+    pub fn figures(self) -> Figures
+        ensures { result ≡ verb_figures self }
+    {
         match self {
             Verb::Open => Figures { least: 5, most: 5 },
             Verb::Book => Figures { least: 2, most: 2 },

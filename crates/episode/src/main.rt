@@ -1,4 +1,6 @@
 //! One booking from its slip to its hand-back, and what its window was.
+#![tactic(auto)]
+
 mod visit;
 
 use crate::visit::visit;

@@ -1,42 +1,35 @@
 //! The console as a program: lines from standard input, answers to standard output. The lines that a
 //! read brought are answered before the next read.
-use board::board::Board;
-use board::lowest::Lowest;
-use console::session::Session;
-use lists::journal::Journal;
-use rules::report::{Action, Report};
+#![tactic(auto)]
+
+use console::frame::Framer;
+use console::page::{SHORTEST, write_end, write_fault};
+use console::session::{Journal, LineFault, Session};
 use std::io;
 use std::io::{BufWriter, Read, Stdout, Write};
-use text::fault::LineFault;
-use text::frame::Framer;
-use text::page::{SHORTEST, write_end, write_fault};
 
 /// How many bytes a read asks for.
 const BLOCK: usize = 65536;
-
-/// How many steps a line can make.
-const REPORTS: usize = 4096;
 
 /// How many faults are printed at the end: the first ones.
 const FAULTS: usize = 256;
 
 /// What is open between two lines.
 #[derive(Drop)]
-struct Desk<'a, 'b, 'c, 'd> {
+struct Desk<'a, 'b> {
     framer: Framer,
-    session: Session<Lowest>,
-    reports: &'a mut Journal<'b, Report>,
-    faults: &'c mut Journal<'d, LineFault>,
+    session: Session,
+    faults: &'a mut Journal<'b, LineFault>,
     out: BufWriter<Stdout>,
 }
 
-impl Desk<'_, '_, '_, '_> {
+impl Desk<'_, '_> {
     /// Answers the line that the framer has read.
     fn answer(&mut self) -> io::Result<()> {
         let mut page = [0; SHORTEST];
         let len = self
             .session
-            .handle(self.reports, self.faults, self.framer.line(), &mut page)
+            .handle(self.framer.line(), &mut page, self.faults)
             .unwrap();
         self.framer.clear();
         self.out.write_all(&page[0..len])
@@ -83,19 +76,11 @@ impl Desk<'_, '_, '_, '_> {
 }
 
 fn main(rt: HostRuntime) -> io::Result<()> {
-    let mut steps = [Report {
-        number: 0,
-        action: Action::Wipe,
-        column: 0,
-        row: 0,
-    }; REPORTS];
-    let mut reports = Journal::new(&mut steps);
     let mut places = [LineFault::blank(); FAULTS];
     let mut faults = Journal::new(&mut places);
     let mut desk = Desk {
         framer: Framer::new(),
-        session: Session::new(Board::new(rt.alloc())?, Lowest),
-        reports: &mut reports,
+        session: Session::new(),
         faults: &mut faults,
         out: BufWriter::new(rt.alloc(), rt.stdout())?,
     };

@@ -1,5 +1,7 @@
 //! The rules of the slot board: the plain types of the subject, what the calls mean (specs/), and
 //! what holds after every list of calls (laws, proved in proofs/).
+#![tactic(auto)]
+
 pub mod laws;
 pub mod refusal;
 pub mod report;

@@ -1,4 +1,6 @@
 //! Sheets: the grants that are out, as billing reads them.
+#![tactic(auto)]
+
 pub mod grant;
 mod lines;
 pub mod read;

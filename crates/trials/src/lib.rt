@@ -1,4 +1,6 @@
 //! Test runs of the finished crates, and the one case that no run can reach.
+#![tactic(auto)]
+
 ghost use Rattle.trials.specs.Numbers.{TheLastNumberIsGiven, NoneComesAfterIt, NumbersAreTriedSecond, AnOpeningStartsOver};
 
 #[cfg(test)]

@@ -2,8 +2,8 @@
 use crate::tests::asks::no_report;
 use board::board::Board;
 use board::lowest::Lowest;
-use console::answer::answer;
-use console::session::Session;
+use console_next::answer::answer;
+use console_next::session::Session;
 use lists::journal::Journal;
 use rules::refusal::Refusal;
 use rules::report::Report;

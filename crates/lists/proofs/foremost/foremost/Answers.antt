@@ -4,19 +4,19 @@ use Rattle.std.proofs.lemmas.List.{nil_from_length}
 use Rattle.std.specs.List.{IsFirstBest}
 use Rattle.lists.proofs.Order.{foremost_is, leads_from_best}
 use Rattle.lists.proofs.foremost.foremost.Goals as goal
-use Rattle.lists.proofs.foremost.foremost.Goals.{then-not-stands-before, else-not-stands-before}
+use Rattle.lists.proofs.foremost.foremost.Goals.{then-not-stands_before, else-not-stands_before}
 
-pub returns-then-is-empty : goal.returns-then-is-empty
-returns-then-is-empty g c =
+pub returns-then-is_empty : goal.returns-then-is_empty
+returns-then-is_empty g c =
     let e = nil_from_length c.args.list.now (search rules) in record { is = rw e; leads = e }
 
 pub loop-i-preserved : goal.loop-i-preserved
 loop-i-preserved g c =
     let o = IsStrictWeakOrder-from_at_least g.T.Ranked.before g.met.T.Ranked.total g.met.T.Ranked.transitive in
-    elim c.if-not-stands-before.branch [
-      | then-not-stands-before w ↦
+    elim c.if-not-stands_before.branch [
+      | then-not-stands_before w ↦
           rw w.best-is (IsFirstBest-takes o _ _ _ _ _ c.loop-i.invariant (search rules) c.index-list-i.is c.index-list-best.is (search rules))
-      | else-not-stands-before w ↦
+      | else-not-stands_before w ↦
           rw w.best-is (IsFirstBest-keeps o _ _ _ _ _ c.loop-i.invariant (search rules) c.index-list-i.is c.index-list-best.is (search rules))
     ]
 

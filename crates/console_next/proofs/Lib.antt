@@ -1,0 +1,4 @@
+mod Naming
+mod Obeying
+mod Replying
+mod Settling

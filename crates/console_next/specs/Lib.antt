@@ -1,0 +1,6 @@
+pub mod Answers
+pub mod Calls
+pub mod Orders
+pub mod Replies
+pub mod Sessions
+pub mod Verbs

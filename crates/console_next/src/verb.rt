@@ -1,0 +1,60 @@
+//! The words that a line can begin with.
+ghost use Rattle.std.specs.Prelude.{◌≡◌};
+ghost use Rattle.console_next.specs.Verbs.{verb_word, verb_figures, verb_of, Names};
+
+use text::figures::Figures;
+use text::head::Head;
+
+/// What a line asks for.
+#[derive(Clone, Copy, PartialEq, Eq, Debug)]
+pub enum Verb {
+    Open,
+    Book,
+    Step,
+    Drive,
+    Collect,
+    Drop,
+    Back,
+    Show,
+}
+
+/// The verb that has this word.
+fn verb_of(text: &[u8]) -> Option<Verb>
+    ensures { Names text.now result }
+{
+    match text {
+        b"open" => Some(Verb::Open),
+        b"book" => Some(Verb::Book),
+        b"step" => Some(Verb::Step),
+        b"drive" => Some(Verb::Drive),
+        b"collect" => Some(Verb::Collect),
+        b"drop" => Some(Verb::Drop),
+        b"back" => Some(Verb::Back),
+        b"show" => Some(Verb::Show),
+        _ => None,
+    }
+}
+
+/// A console line begins with a verb.
+impl Head for Verb {
+    ghost spelled = { verb_of };
+
+    ghost wants = { verb_figures };
+
+    fn named(text: &[u8]) -> Option<Verb> {
+        verb_of(text)
+    }
+
+    fn figures(self) -> Figures {
+        match self {
+            Verb::Open => Figures { least: 5, most: 5 },
+            Verb::Book => Figures { least: 2, most: 2 },
+            Verb::Step => Figures { least: 1, most: 1 },
+            Verb::Drive => Figures { least: 2, most: 2 },
+            Verb::Collect => Figures { least: 1, most: 1 },
+            Verb::Drop => Figures { least: 1, most: 1 },
+            Verb::Back => Figures { least: 1, most: 1 },
+            Verb::Show => Figures { least: 1, most: 1 },
+        }
+    }
+}
