@@ -46,5 +46,5 @@ handled line page session faults =
     }
 
 -- the same, of what the arguments of the call point to
-abbrev pub handled_at : Option (Bor (List ℕ)) → Bor (List ℕ) → Bor Session → Bor (Journal LineFault) → Handled
-handled_at line page session faults = handled (option_map (λ x. x.now) line) page.now session.now (contents_of faults.now)
+abbrev pub handled_at : Option (Bor (List ℕ)) → List ℕ → Session → Journal LineFault → Handled
+handled_at line page session faults = handled (option_map (λ x. x.now) line) page session (contents_of faults)

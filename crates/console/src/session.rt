@@ -54,11 +54,11 @@ impl Session {
         page: &mut [u8],
         faults: &mut Journal<LineFault>,
     ) -> Result<usize, Fault>
-        ensures answer { result ≡ (handled_at line.entry page.entry self.entry faults.entry).answer }
+        ensures answer { result ≡ (handled_at line.entry page.old self.old faults.old).answer }
         ensures fits { IfOk result (λ n. n ≤ shortest) }
-        ensures page { page.new ≡ (handled_at line.entry page.entry self.entry faults.entry).page }
-        ensures session { self.new ≡ (handled_at line.entry page.entry self.entry faults.entry).session }
-        ensures faults { contents_of faults.new ≡ (handled_at line.entry page.entry self.entry faults.entry).faults }
+        ensures page { page.new ≡ (handled_at line.entry page.old self.old faults.old).page }
+        ensures session { self.new ≡ (handled_at line.entry page.old self.old faults.old).session }
+        ensures faults { contents_of faults.new ≡ (handled_at line.entry page.old self.old faults.old).faults }
         ensures place { faults.new.slots.ghost_name ≡ faults.old.slots.ghost_name }
     {
         let Err(fault) = read_line(line);

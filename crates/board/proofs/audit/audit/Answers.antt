@@ -9,12 +9,12 @@ use Rattle.board.specs.Face.{rack_in}
 use Rattle.board.proofs.Auditing.{leaves_more, few, enough, not_opened, audit_none, leaves_none, audit_ends}
 use Rattle.board.proofs.audit.audit.Goals as goal
 
-pub returns-in-err-open : goal.returns-in-err-open
-returns-in-err-open g c =
+pub returns-in_err-open : goal.returns-in_err-open
+returns-in_err-open g c =
     let x = rack_in c.args.board.now in
     let z : Sizes = record { rows = c.args.rows; columns = c.args.columns; places = c.args.places; lead = c.args.lead } in
-    let p = err_from_is_err_and c.from-residual.result c.from-residual.ensures.1 in
-    let h = c.in-err-open.ensures in
+    let p = err_from_is_err_and c.from_residual.result c.from_residual.ensures.1 in
+    let h = c.in_err-open.ensures in
     let o = not_opened x z c.args.first _ h.answer in
     let d = audit_none g.C.Chooser.meaning x z c.args.first (contents_of c.args.journal.now) c.args.turns.now o.0 in
     let e : (open' x z c.args.first).rack ≡ x = let q = o.0 in rw q refl in
@@ -32,15 +32,15 @@ returns-in-err-open g c =
 
 pub loop-turn-init : goal.loop-turn-init
 loop-turn-init g c =
-    let h = c.in-ok-open.ensures in
+    let h = c.in_ok-open.ensures in
     let z : Sizes = record { rows = c.args.rows; columns = c.args.columns; places = c.args.places; lead = c.args.lead } in (
       leaves_none g.C.Chooser.meaning (rack_in c.args.board.now) z c.args.first (contents_of c.args.journal.now) c.args.turns.now
           (rack_in c.open.new.self) h.answer h.rack (h.history refl),
       refl,
     )
 
-pub overflow-add-withdrawn : goal.overflow-add-withdrawn
-overflow-add-withdrawn g c =
+pub overflow_add-withdrawn : goal.overflow_add-withdrawn
+overflow_add-withdrawn g c =
     let h = c.play-withdrawn.ensures in
     let k = leaves_more g.C.Chooser.meaning _ _ g.met.C.Chooser.lawful (rack_in c.loop-turn.board) (rack_in c.play-withdrawn.new.board) (contents_of c.loop-turn.journal)
     (contents_of c.play-withdrawn.new.journal) c.loop-turn.withdrawn c.play-withdrawn.result c.loop-turn.turns c.loop-turn.turn-index c.turn-item.result
@@ -57,14 +57,14 @@ loop-turn-preserved g c =
       h.place ∙ c.loop-turn.invariant.1,
     )
 
-pub accounts-on-requires : goal.accounts-on-requires
-accounts-on-requires g c = let k = c.loop-turn.invariant.0 in enough k.0 (rack_in c.loop-turn.board) c.loop-turn.withdrawn k.1 k.2
+pub accounts_on-requires : goal.accounts_on-requires
+accounts_on-requires g c = let k = c.loop-turn.invariant.0 in enough k.0 (rack_in c.loop-turn.board) c.loop-turn.withdrawn k.1 k.2
 
 pub returns : goal.returns
 returns g c =
-    let h = c.in-ok-open.ensures in
+    let h = c.in_ok-open.ensures in
     let z : Sizes = record { rows = c.args.rows; columns = c.args.columns; places = c.args.places; lead = c.args.lead } in
     let e = audit_ends g.C.Chooser.meaning (rack_in c.args.board.now) z c.args.first (contents_of c.args.journal.now) c.args.turns.now
-    (rack_in c.loop-turn.board) (contents_of c.loop-turn.journal) c.loop-turn.withdrawn c.loop-turn.turns c.loop-turn.turn-index c.accounts-on.result
-    h.answer c.accounts-on.ensures (omega arith) c.loop-turn.invariant.0 in
+    (rack_in c.loop-turn.board) (contents_of c.loop-turn.journal) c.loop-turn.withdrawn c.loop-turn.turns c.loop-turn.turn-index c.accounts_on.result
+    h.answer c.accounts_on.ensures (omega arith) c.loop-turn.invariant.0 in
     record { answer = e.0; rack = e.1; turns = e.2; journal = e.3; place = c.loop-turn.invariant.1; history = e.4 }

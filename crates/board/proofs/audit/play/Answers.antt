@@ -50,7 +50,7 @@ returns-in-Withdraw g c =
     let h = c.withdraw.ensures in
     let x = rack_in c.args.board.now in
     let e = by_call g.C.Chooser.meaning x (rack_in c.withdraw.new.self) j j c.args.turn.now c.args.turn.now (call.Withdraw n) c.from.result c.in-Withdraw.is
-    (c.from.ensures ∙ (ap bool_byte (c.is-ok.ensures.value ∙ ap is_ok h.answer) ∙ one_told n (drop' x n).answer)) h.rack refl refl in
+    (c.from.ensures ∙ (ap bool_byte (c.is_ok.ensures.value ∙ ap is_ok h.answer) ∙ one_told n (drop' x n).answer)) h.rack refl refl in
     record { withdrew = e.0; rack = e.1; turn = e.2; journal = e.3; place = refl }
 
 pub returns-in-Back : goal.returns-in-Back

@@ -6,11 +6,11 @@ use Rattle.board.proofs.look.row_of.Goals as goal
 pub loop-i-init : goal.loop-i-init
 loop-i-init c = row_start (row_of c.args.number c.args.cells.now)
 
-pub returns-then-marked-by : goal.returns-then-marked-by
-returns-then-marked-by c = sym (row_hit c.args.number c.args.cells.now c.loop-i.i _ c.loop-i-test.true c.if-marked-by.ensures) ∙ c.loop-i.invariant
+pub returns-then-marked_by : goal.returns-then-marked_by
+returns-then-marked_by c = sym (row_hit c.args.number c.args.cells.now c.loop-i.i _ c.loop-i-test.true c.if-marked_by.ensures) ∙ c.loop-i.invariant
 
 pub loop-i-preserved : goal.loop-i-preserved
-loop-i-preserved c = sym (row_miss c.args.number c.args.cells.now c.loop-i.i _ c.loop-i-test.true c.if-marked-by.ensures) ∙ c.loop-i.invariant
+loop-i-preserved c = sym (row_miss c.args.number c.args.cells.now c.loop-i.i _ c.loop-i-test.true c.if-marked_by.ensures) ∙ c.loop-i.invariant
 
 pub returns : goal.returns
 returns c = sym (row_end c.args.number c.args.cells.now c.loop-i.i c.loop-i-test.false) ∙ c.loop-i.invariant

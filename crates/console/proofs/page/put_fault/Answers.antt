@@ -14,12 +14,12 @@ module _ (f : Fault) (w : List ℕ) (n k : ℕ) (word : w ≡ layer_word (layer_
   fields_long : length (tabbed (fault_fields f)) ≡ 4 + length w + length (decimal n) + length (decimal k)
   fields_long = rw (word, number, field) (fault_long f)
 
-pub put-figure-at-requires : goal.put-figure-at-requires
-put-figure-at-requires c =
+pub put_figure-at-requires : goal.put_figure-at-requires
+put_figure-at-requires c =
     omega (arith, fields_long c.args.fault c.word.result.now _ _ (c.word.ensures ∙ ap layer_word c.layer.ensures) (c.from.ensures ∙ c.number.ensures) refl)
 
-pub put-figure-at-requires-2 : goal.put-figure-at-requires-2
-put-figure-at-requires-2 c =
+pub put_figure-at-requires-2 : goal.put_figure-at-requires-2
+put_figure-at-requires-2 c =
     omega (arith, fields_long c.args.fault c.word.result.now _ _ (c.word.ensures ∙ ap layer_word c.layer.ensures) (c.from.ensures ∙ c.number.ensures) c.from-2.ensures)
 
 pub put-requires : goal.put-requires
@@ -30,4 +30,4 @@ pub returns : goal.returns
 returns c =
     subst (λ text. Puts c.args.page.now c.args.at text c.put.new.page c.put.result)
     (fields_are c.args.fault c.word.result.now _ _ (c.word.ensures ∙ ap layer_word c.layer.ensures) (c.from.ensures ∙ c.number.ensures) c.from-2.ensures)
-    (puts_then c.put-at.ensures (puts_then c.put-at-2.ensures (puts_then c.put-figure-at.ensures (puts_then c.put-figure-at-2.ensures c.put.ensures))))
+    (puts_then c.put-at.ensures (puts_then c.put-at-2.ensures (puts_then c.put_figure-at.ensures (puts_then c.put_figure-at-2.ensures c.put.ensures))))

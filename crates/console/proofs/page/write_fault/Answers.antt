@@ -3,15 +3,15 @@ use Rattle.console.specs.Pages.{Puts, fault_line}
 use Rattle.console.proofs.Paging.{puts_then, written, fault_short, figure_short}
 use Rattle.console.proofs.page.write_fault.Goals as goal
 
-pub put-figure-at-requires : goal.put-figure-at-requires
-put-figure-at-requires c = omega (arith, figure_short c.args.line (omega arith), c.in-ok-check.ensures)
+pub put_figure-at-requires : goal.put_figure-at-requires
+put_figure-at-requires c = omega (arith, figure_short c.args.line (omega arith), c.in_ok-check.ensures)
 
-pub put-fault-requires : goal.put-fault-requires
-put-fault-requires c = omega (arith, figure_short c.args.line (omega arith), fault_short c.args.fault (omega arith), c.in-ok-check.ensures)
+pub put_fault-requires : goal.put_fault-requires
+put_fault-requires c = omega (arith, figure_short c.args.line (omega arith), fault_short c.args.fault (omega arith), c.in_ok-check.ensures)
 
 pub returns : goal.returns
 returns c =
-    let text : Puts c.args.page.now 0 (fault_line c.args.line c.args.fault) c.put-fault.new.page c.put-fault.result =
-    puts_then c.put-at.ensures (puts_then c.put-figure-at.ensures c.put-fault.ensures) in
-    let w = written c.args.page.now (fault_line c.args.line c.args.fault) c.put-fault.new.page c.put-fault.result c.in-ok-check.ensures text in
+    let text : Puts c.args.page.now 0 (fault_line c.args.line c.args.fault) c.put_fault.new.page c.put_fault.result =
+    puts_then c.put-at.ensures (puts_then c.put_figure-at.ensures c.put_fault.ensures) in
+    let w = written c.args.page.now (fault_line c.args.line c.args.fault) c.put_fault.new.page c.put_fault.result c.in_ok-check.ensures text in
     record { value = w.0; after = w.1; fits = omega (arith, figure_short c.args.line (omega arith), fault_short c.args.fault (omega arith)) }

@@ -9,5 +9,5 @@ use Rattle.text.proofs.head.read_line.Goals as goal
 few : (line : List ℕ) → is_line line ≡ true → length (fields_of line) ≤ 81
 few line h = let short : length line ≤ 80 = leb-true (length line) 80 (and_parts _ _ h).0 in omega (arith, fields_few line)
 
-pub overflow-cast-found : goal.overflow-cast-found
-overflow-cast-found g c = omega (arith, few c.args.line.now (sym c.is-line.ensures ∙ c.if-not-is-line.false), c.count-fields-found.ensures.count)
+pub overflow_cast-found : goal.overflow_cast-found
+overflow_cast-found g c = omega (arith, few c.args.line.now (sym c.is_line.ensures ∙ c.if-not-is_line.false), c.count_fields-found.ensures.count)

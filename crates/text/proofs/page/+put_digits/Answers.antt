@@ -37,22 +37,22 @@ returns-then-n-lt10 t c =
       rest = past c.args.page.now c.args.page.now c.args.at _ refl;
     }
 
-pub put-digits-end-requires : goal.put-digits-end-requires
-put-digits-end-requires t c = (omega arith, omega (arith, more_long c.args.n c.if-n-lt10.false (omega arith)))
+pub put_digits-end-requires : goal.put_digits-end-requires
+put_digits-end-requires t c = (omega arith, omega (arith, more_long c.args.n c.if-n-lt10.false (omega arith)))
 
 pub bounds-page-end : goal.bounds-page-end
 bounds-page-end t c = omega (arith, more_long c.args.n c.if-n-lt10.false (omega arith))
 
-pub overflow-add-result-2 : goal.overflow-add-result-2
-overflow-add-result-2 t c = omega (arith, more_long c.args.n c.if-n-lt10.false (omega arith))
+pub overflow_add-result-2 : goal.overflow_add-result-2
+overflow_add-result-2 t c = omega (arith, more_long c.args.n c.if-n-lt10.false (omega arith))
 
 pub returns : goal.returns
 returns t c =
     let small : c.args.n < 2 ^ 64 = omega arith in
     let long = more_long c.args.n c.if-n-lt10.false small in
-    let made = c.put-digits-end.ensures in
+    let made = c.put_digits-end.ensures in
     record {
       ends = omega arith;
-      front = last (take c.args.at c.args.page.now) c.put-digits-end.new.page c.put-digits-end.result c.args.n made.front c.if-n-lt10.false small (omega arith);
-      rest = past c.args.page.now c.put-digits-end.new.page c.put-digits-end.result _ made.rest;
+      front = last (take c.args.at c.args.page.now) c.put_digits-end.new.page c.put_digits-end.result c.args.n made.front c.if-n-lt10.false small (omega arith);
+      rest = past c.args.page.now c.put_digits-end.new.page c.put_digits-end.result _ made.rest;
     }

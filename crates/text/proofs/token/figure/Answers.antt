@@ -3,13 +3,13 @@ use Rattle.std.specs.Str.Parse.{ParsesUnsigned}
 use Rattle.text.proofs.Reading.{not_bare, not_text, parsed}
 use Rattle.text.proofs.token.figure.Goals as goal
 
-pub returns-then-not-is-bare : goal.returns-then-not-is-bare
-returns-then-not-is-bare c = sym (not_bare c.args.text.now (sym c.is-bare.ensures ∙ c.if-not-is-bare.true))
+pub returns-then-not-is_bare : goal.returns-then-not-is_bare
+returns-then-not-is_bare c = sym (not_bare c.args.text.now (sym c.is_bare.ensures ∙ c.if-not-is_bare.true))
 
 pub returns-in-Ok : goal.returns-in-Ok
 returns-in-Ok c =
     c.ok.ensures.value
-    ∙ parsed c.args.text.now c.parse.result (sym c.is-bare.ensures ∙ c.if-not-is-bare.false)
+    ∙ parsed c.args.text.now c.parse.result (sym c.is_bare.ensures ∙ c.if-not-is_bare.false)
     (subst (λ bs. ParsesUnsigned 32 10 bs c.parse.result) c.in-Ok.ensures.cases.0 c.parse.ensures.value.0)
 
 pub returns-in-Err : goal.returns-in-Err

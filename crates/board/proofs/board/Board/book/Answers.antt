@@ -7,9 +7,9 @@ use Rattle.board.specs.Reading.{rack_of}
 use Rattle.board.proofs.Promising.{carries_told, reached_after}
 use Rattle.board.proofs.board.Board.book.Goals as goal
 
-pub invariant-of-self : goal.invariant-of-self
-invariant-of-self c =
-    (reached_after _ (rack_of c.args.self.now.tables) (rack_of c.book.new.self) _ (book_carries (rack_of c.args.self.now.tables) c.args.request) c.book.ensures.rack c.args.self.now.reached, tt)
+pub invariant_of-self : goal.invariant_of-self
+invariant_of-self c =
+    record { reached = reached_after _ (rack_of c.args.self.now.tables) (rack_of c.book.new.self) _ (book_carries (rack_of c.args.self.now.tables) c.args.request) c.book.ensures.rack c.args.self.now.reached }
 
 pub returns : goal.returns
 returns c =

@@ -10,9 +10,9 @@ use Rattle.board.proofs.board.Board.collect.Goals as goal
 pub collect-requires : goal.collect-requires
 collect-requires c = reached_sound (rack_of c.args.self.now.tables) c.args.self.now.reached
 
-pub invariant-of-self : goal.invariant-of-self
-invariant-of-self c =
-    (reached_after _ (rack_of c.args.self.now.tables) (rack_of c.collect.new.self) _ (collect_carries (rack_of c.args.self.now.tables) c.args.number) c.collect.ensures.rack c.args.self.now.reached, tt)
+pub invariant_of-self : goal.invariant_of-self
+invariant_of-self c =
+    record { reached = reached_after _ (rack_of c.args.self.now.tables) (rack_of c.collect.new.self) _ (collect_carries (rack_of c.args.self.now.tables) c.args.number) c.collect.ensures.rack c.args.self.now.reached }
 
 pub returns : goal.returns
 returns c =

@@ -16,13 +16,13 @@ use Rattle.board.specs.Face.{rack_in}
 use Rattle.board.proofs.Running.{drive_none, drive_full, drive_runs}
 use Rattle.board.proofs.board.Board.drive.Goals as goal
 
-pub returns-in-err-soft-place : goal.returns-in-err-soft-place
-returns-in-err-soft-place g c =
+pub returns-in_err-soft_place : goal.returns-in_err-soft_place
+returns-in_err-soft_place g c =
     let m = g.C.Chooser.meaning in
     let x = rack_in c.args.self.now in
     let room = room_of (contents_of c.args.journal.now) in
-    let p = err_from_is_err_and c.from-residual.result c.from-residual.ensures.1 in
-    let d = drive_none m x c.args.number c.args.budget room c.args.chooser.now _ c.in-err-soft-place.ensures in
+    let p = err_from_is_err_and c.from_residual.result c.from_residual.ensures.1 in
+    let d = drive_none m x c.args.number c.args.budget room c.args.chooser.now _ c.in_err-soft_place.ensures in
     record {
       answer = p.1 ∙ (ap Err p.2 ∙ sym (ap (λ o. o.answer) d));
       rack = sym (ap (λ o. o.ran.rack) d);
@@ -35,12 +35,12 @@ returns-in-err-soft-place g c =
           (drive_carries m g.met.C.Chooser.lawful x c.args.number c.args.budget room c.args.chooser.now);
     }
 
-pub returns-then-is-full : goal.returns-then-is-full
-returns-then-is-full g c =
+pub returns-then-is_full : goal.returns-then-is_full
+returns-then-is_full g c =
     let m = g.C.Chooser.meaning in
     let x = rack_in c.args.self.now in
     let room = room_of (contents_of c.args.journal.now) in
-    let d = drive_full m x c.args.number c.args.budget room c.args.chooser.now _ c.in-ok-soft-place.ensures.2 (sym c.if-is-full.ensures) in
+    let d = drive_full m x c.args.number c.args.budget room c.args.chooser.now _ c.in_ok-soft_place.ensures.2 (sym c.if-is_full.ensures) in
     record {
       answer = sym (ap (λ o. o.answer) d);
       rack = sym (ap (λ o. o.ran.rack) d);
@@ -58,7 +58,7 @@ returns g c =
     let m = g.C.Chooser.meaning in
     let x = rack_in c.args.self.now in
     let room = room_of (contents_of c.args.journal.now) in
-    let d = drive_runs m x c.args.number c.args.budget room c.args.chooser.now _ c.in-ok-soft-place.ensures.2 (sym c.if-is-full.ensures) in
+    let d = drive_runs m x c.args.number c.args.budget room c.args.chooser.now _ c.in_ok-soft_place.ensures.2 (sym c.if-is_full.ensures) in
     let e = c.run-made.ensures.rack ∙ sym (ap (λ o. o.ran.rack) d) in
     record {
       answer = ap {B = Result (ℕ × Stage) Refusal} Ok (let a = c.run-made.ensures.count in let b = c.stage.ensures ∙ ap (λ (y : Rack). stage_at y c.args.number) c.run-made.ensures.rack in cc)

@@ -10,9 +10,9 @@ use Rattle.board.proofs.board.Board.step.Goals as goal
 pub step-requires : goal.step-requires
 step-requires g c = reached_sound (rack_of c.args.self.now.tables) c.args.self.now.reached
 
-pub invariant-of-self : goal.invariant-of-self
-invariant-of-self g c =
-    (reached_after _ (rack_of c.args.self.now.tables) (rack_of c.step.new.self) _ (step_carries g.C.Chooser.meaning g.met.C.Chooser.lawful (rack_of c.args.self.now.tables) c.args.number c.args.chooser.now) c.step.ensures.rack c.args.self.now.reached, tt)
+pub invariant_of-self : goal.invariant_of-self
+invariant_of-self g c =
+    record { reached = reached_after _ (rack_of c.args.self.now.tables) (rack_of c.step.new.self) _ (step_carries g.C.Chooser.meaning g.met.C.Chooser.lawful (rack_of c.args.self.now.tables) c.args.number c.args.chooser.now) c.step.ensures.rack c.args.self.now.reached }
 
 pub returns : goal.returns
 returns g c =

@@ -10,11 +10,11 @@ pub returns : goal.returns
 returns c =
     let tallies = c.args.self.now.tallies in
     let q : Asked = record { mask = c.args.vacant; column = c.args.column; left = c.args.left } in
-    let row = c.in-ok-row.row in
-    let p = c.in-ok-row.ensures in
+    let row = c.in_ok-row.row in
+    let p = c.in_ok-row.ensures in
     let is = evening_row_lem tallies q row p in
     let some = some_vacant c.args.vacant row p.vacant in
     record {
       answer = ap (λ (n : ℕ). Some n) is ∙ sym (cond-false _ _ _ some);
-      held = c.add-pick.ensures ∙ (ap {B = Evening} (λ (n : ℕ). record { tallies = picked tallies n }) is ∙ sym (cond-false _ _ _ some));
+      held = c.add_pick.ensures ∙ (ap {B = Evening} (λ (n : ℕ). record { tallies = picked tallies n }) is ∙ sym (cond-false _ _ _ some));
     }

@@ -17,8 +17,8 @@ duty-action-requires g c =
       mask = rw c.ticket-t.ensures c.requires.mask;
     }
 
-pub column-told-column-requires : goal.column-told-column-requires
-column-told-column-requires g c =
+pub column_told-column-requires : goal.column_told-column-requires
+column_told-column-requires g c =
     let r = rack_of c.args.self.now in
     let h : c.args.spot.place < length r.tickets = let v = c.args.self.now.tickets.ok.0 in let w = c.requires.within in omega arith in
     let f = (fit_at r c.requires.sound c.args.spot.place c.ticket-t.result h c.ticket-t.ensures).reach in
@@ -42,10 +42,10 @@ returns g c =
     let s = c.args.chooser.now in
     let t = c.ticket-t.result in
     record {
-      report = subst (λ (u : Ticket). ◌≡◌ {A = Report} (record { number = t.number; action = c.duty-action.result; column = c.column-told-column.result; row = c.row-for-row.result }) (report_of r u (row_for m r u s)))
-          c.ticket-t.ensures (act_report m r t s c.duty-action.result c.column-told-column.result c.row-for-row.result c.duty-action.ensures c.column-told-column.ensures c.row-for-row.ensures.row);
+      report = subst (λ (u : Ticket). ◌≡◌ {A = Report} (record { number = t.number; action = c.duty-action.result; column = c.column_told-column.result; row = c.row_for-row.result }) (report_of r u (row_for m r u s)))
+          c.ticket-t.ensures (act_report m r t s c.duty-action.result c.column_told-column.result c.row_for-row.result c.duty-action.ensures c.column_told-column.ensures c.row_for-row.ensures.row);
       rack = subst (λ (u : Ticket). rack_of c.replace.new.self ≡ acted r u (row_for m r u s)) c.ticket-t.ensures
-          (act_rack m r t s c.duty-action.result c.column-told-column.result c.row-for-row.result c.duty-action.ensures c.column-told-column.ensures c.row-for-row.ensures.row
+          (act_rack m r t s c.duty-action.result c.column_told-column.result c.row_for-row.result c.duty-action.ensures c.column_told-column.ensures c.row_for-row.ensures.row
           (rack_of c.write.new.self) (rack_of c.replace.new.self) c.becomes.result c.write.ensures c.becomes.ensures c.replace.ensures);
-      held = subst (λ (u : Ticket). c.row-for-row.new.chooser ≡ held_after m r u s) c.ticket-t.ensures c.row-for-row.ensures.held;
+      held = subst (λ (u : Ticket). c.row_for-row.new.chooser ≡ held_after m r u s) c.ticket-t.ensures c.row_for-row.ensures.held;
     }

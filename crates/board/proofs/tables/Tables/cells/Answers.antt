@@ -2,5 +2,5 @@ use Rattle.std.proofs.Common.{◌-◌, arith}
 use Rattle.std.proofs.lemmas.Nat.{mul-add-lt}
 use Rattle.board.proofs.tables.Tables.cells.Goals as goal
 
-pub slice-bounds-result-end : goal.slice-bounds-result-end
-slice-bounds-result-end c = omega (arith, mul-add-lt c.args.column c.args.self.now.rows (c.args.self.now.rows - 1) c.args.self.now.columns (omega arith) (omega arith))
+pub slice_bounds-result-end : goal.slice_bounds-result-end
+slice_bounds-result-end c = omega (arith, mul-add-lt c.args.column c.args.self.now.rows (c.args.self.now.rows - 1) c.args.self.now.columns (omega arith) (omega arith))

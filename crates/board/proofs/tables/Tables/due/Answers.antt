@@ -8,6 +8,6 @@ returns c =
     let v = c.args.self.now.tickets.ok.0 in
     let w = c.walk.ensures.within in (
       omega arith,
-      due_ends (rack_of c.args.self.now) c.args.number c.in-ok-i.i c.led.result c.walk.result.place c.in-ok-i.ensures.2 c.led.ensures.is c.walk.ensures.is,
+      due_ends (rack_of c.args.self.now) c.args.number c.in_ok-i.i c.led.result c.walk.result.place c.in_ok-i.ensures.2 c.led.ensures.is c.walk.ensures.is,
       c.walk.ensures.mask,
     )

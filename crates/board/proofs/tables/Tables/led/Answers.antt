@@ -7,8 +7,8 @@ use Rattle.board.specs.Reading.{rack_of, ticket_at}
 use Rattle.board.proofs.Leading.{oldest_at, led_oldest, led_named}
 use Rattle.board.proofs.tables.Tables.led.Goals as goal
 
-pub returns-then-runs-ahead : goal.returns-then-runs-ahead
-returns-then-runs-ahead c =
+pub returns-then-runs_ahead : goal.returns-then-runs_ahead
+returns-then-runs_ahead c =
     let r = rack_of c.args.self.now in
     let v = c.args.self.now.tickets.ok.0 in
     let l : LeadsAt ticket_before r.tickets c.in-Some.oldest = rw c.deref.ensures.value at c.in-Some.ensures.leads in
@@ -16,11 +16,11 @@ returns-then-runs-ahead c =
     let o = oldest_at r c.requires.sound c.args.i c.in-Some.oldest (omega arith) c.requires.is_soft l in
     let a = ap (λ (t : Ticket). t.number) c.ticket.ensures in
     let b = ap (λ (t : Ticket). t.number) c.ticket-2.ensures in
-    let k = ltb-true c.args.self.now.lead (c.ticket.result.number - c.ticket-2.result.number) (sym c.if-runs-ahead.ensures) in
+    let k = ltb-true c.args.self.now.lead (c.ticket.result.number - c.ticket-2.result.number) (sym c.if-runs_ahead.ensures) in
     record { within = omega arith; is = led_oldest r (ticket_at r c.args.i) (ticket_at r c.in-Some.oldest) o (omega arith) }
 
-pub returns-else-runs-ahead : goal.returns-else-runs-ahead
-returns-else-runs-ahead c =
+pub returns-else-runs_ahead : goal.returns-else-runs_ahead
+returns-else-runs_ahead c =
     let r = rack_of c.args.self.now in
     let v = c.args.self.now.tickets.ok.0 in
     let l : LeadsAt ticket_before r.tickets c.in-Some.oldest = rw c.deref.ensures.value at c.in-Some.ensures.leads in
@@ -28,5 +28,5 @@ returns-else-runs-ahead c =
     let o = oldest_at r c.requires.sound c.args.i c.in-Some.oldest (omega arith) c.requires.is_soft l in
     let a = ap (λ (t : Ticket). t.number) c.ticket.ensures in
     let b = ap (λ (t : Ticket). t.number) c.ticket-2.ensures in
-    let k = ltb-false c.args.self.now.lead (c.ticket.result.number - c.ticket-2.result.number) (sym c.if-runs-ahead.ensures) in
+    let k = ltb-false c.args.self.now.lead (c.ticket.result.number - c.ticket-2.result.number) (sym c.if-runs_ahead.ensures) in
     record { within = p; is = led_named r (ticket_at r c.args.i) (ticket_at r c.in-Some.oldest) o (omega arith) }

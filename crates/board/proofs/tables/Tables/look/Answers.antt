@@ -18,7 +18,7 @@ returns-then-crowd-self c =
     let e : looks r c.args.t ≡ true = sym c.looks.ensures ∙ c.if-not-looks.false in
     record {
       mask = mask_seen_lem r c.args.t _ e c.vacancies-mask.ensures;
-      passes = free_wall r c.requires c.args.t _ e (rw c.deref.ensures.value at c.crowd-in-crowd.ensures.booked) c.if-crowd-self.true;
+      passes = free_wall r c.requires c.args.t _ e (rw c.deref.ensures.value at c.crowd_in-crowd.ensures.booked) c.if-crowd-self.true;
     }
 
 pub returns : goal.returns
@@ -28,5 +28,5 @@ returns c =
     record {
       mask = mask_seen_lem r c.args.t _ e c.vacancies-mask.ensures;
       passes = passes_on r c.requires c.args.t _ _ _ e c.vacancies-mask.ensures c.if-mask-ne0.false
-          (rw c.deref.ensures.value at c.crowd-in-crowd.ensures.booked) c.if-crowd-self.false (rw c.deref.ensures.value at c.crowd-in-crowd.ensures.holder);
+          (rw c.deref.ensures.value at c.crowd_in-crowd.ensures.booked) c.if-crowd-self.false (rw c.deref.ensures.value at c.crowd_in-crowd.ensures.holder);
     }

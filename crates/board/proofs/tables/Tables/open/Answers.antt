@@ -5,8 +5,8 @@ use Rattle.board.specs.Reading.{rack_of}
 use Rattle.board.proofs.Opening.{limits, area_most, filled, sized, opened_answer, opened_rack}
 use Rattle.board.proofs.tables.Tables.open.Goals as goal
 
-pub invariant-of-self : goal.invariant-of-self
-invariant-of-self c =
+pub invariant_of-self : goal.invariant_of-self
+invariant_of-self c =
     let z : Sizes = record { rows = c.args.rows; columns = c.args.columns; places = c.args.places; lead = c.args.lead } in
     let e : openable z c.args.first ≡ true = sym c.openable.ensures ∙ c.if-not-openable.false in
     let l = limits z c.args.first e in
@@ -16,7 +16,7 @@ invariant-of-self c =
     let a = c.clear.ensures.len in let b = c.clear.ensures.capacity in let d = c.clear-2.ensures.capacity in
     let ok = c.resize.ensures.succeeds (omega arith) in
     let k = c.resize.ensures.capacity in
-    (l.rows, (l.columns, ((omega arith, l.places.1), (sized (z.columns * z.rows) _ _ _ ok c.resize.ensures.len, ((omega arith, omega arith), tt)))))
+    record { tall = l.rows; wide = l.columns; placed = (omega arith, l.places.1); cells = sized (z.columns * z.rows) _ _ _ ok c.resize.ensures.len; spare = (omega arith, omega arith) }
 
 pub returns : goal.returns
 returns c =

@@ -2,5 +2,5 @@ use Rattle.std.proofs.Common.{◌-◌, arith}
 use Rattle.std.proofs.lemmas.Nat.{mul-add-lt}
 use Rattle.board.proofs.tables.Tables.put_slot.Goals as goal
 
-pub index-mut-requires : goal.index-mut-requires
-index-mut-requires c = omega (arith, mul-add-lt c.args.column c.args.self.now.rows (c.args.row - 1) c.args.self.now.columns (omega arith) (omega arith))
+pub index_mut-requires : goal.index_mut-requires
+index_mut-requires c = omega (arith, mul-add-lt c.args.column c.args.self.now.rows (c.args.row - 1) c.args.self.now.columns (omega arith) (omega arith))

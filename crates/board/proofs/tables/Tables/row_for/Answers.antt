@@ -12,15 +12,15 @@ pick-requires g c =
     let m = mark_mask r c.requires.sound c.args.i c.args.t h c.requires.is c.requires.is_soft c.args.mask c.requires.mask q in
     record { sound = c.requires.sound; inside = mark_inside r c.requires.sound c.args.i c.args.t h c.requires.is c.requires.is_soft q; mask = m.0; vacant = m.1 }
 
-pub overflow-add-t : goal.overflow-add-t
-overflow-add-t g c =
+pub overflow_add-t : goal.overflow_add-t
+overflow_add-t g c =
     let r = rack_of c.args.self.now in
     let h : c.args.i < length r.tickets = let v = c.args.self.now.tickets.ok.0 in let w = c.requires.within in omega arith in
     let f = (fit_at r c.requires.sound c.args.i c.args.t h c.requires.is).reach in
     let w = c.args.self.now.wide.1 in omega arith
 
-pub overflow-sub-t : goal.overflow-sub-t
-overflow-sub-t g c =
+pub overflow_sub-t : goal.overflow_sub-t
+overflow_sub-t g c =
     let r = rack_of c.args.self.now in
     let h : c.args.i < length r.tickets = let v = c.args.self.now.tickets.ok.0 in let w = c.requires.within in omega arith in
     let k = wipe_marks r c.requires.sound c.args.i c.args.t h c.requires.is c.requires.is_soft (sym c.requires.action ∙ c.in-Wipe.is) in omega arith

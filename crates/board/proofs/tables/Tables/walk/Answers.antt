@@ -22,7 +22,7 @@ returns-in-None c =
 pub loop-turn-preserved : goal.loop-turn-preserved
 loop-turn-preserved c =
     let r = rack_of c.args.self.now in
-    let n = c.loop-turn.-turn in
+    let n = c.loop-turn._turn in
     let t = c.loop-turn-test.true in
     let g = walk_goes r _ _ _ _ _ c.ticket.ensures c.look-look.ensures.passes c.loop-turn.invariant.0
     (suc c.args.self.now.columns - (suc n)) c.in-Some.next (omega arith) c.in-Some.is in
@@ -34,7 +34,7 @@ pub returns : goal.returns
 returns c =
     let r = rack_of c.args.self.now in
     let t = c.loop-turn-test.false in
-    let z : suc c.args.self.now.columns - c.loop-turn.-turn ≡ 0 = omega arith in
+    let z : suc c.args.self.now.columns - c.loop-turn._turn ≡ 0 = omega arith in
     record {
       within = c.loop-turn.invariant.1;
       is = subst (λ (k : ℕ). walk_end k r (ticket_at r c.loop-turn.place) ≡ walk_end (suc c.args.self.now.columns) r (ticket_at r c.args.from)) z c.loop-turn.invariant.0;
