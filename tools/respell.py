@@ -3,7 +3,7 @@
 
 usage: python3 tools/respell.py [--list]      at the top of the repository, once, after the kit's own scripts
 
-A name is taken from its signature in specs/ or proofs/. Names that the checker makes (goals, steps, labels of
+A name is taken from its signature in specs/ or proofs/, or from the `as` of an import. Names that the checker makes (goals, steps, labels of
 clauses) and names of src/ are left alone. --list prints the table of old and new names and changes nothing.
 """
 import collections
@@ -14,6 +14,7 @@ import sys
 SIGNATURE = re.compile(
     r"^(\s*)((?:(?:abbrev|unfoldable|pub|record|data)\s+)*)([^\s:(){}.\"]+)((?:\s*[({].*)?\s:\s.*)$"
 )
+ALIAS = re.compile(r"[\w'] as ([a-z]+[A-Z]\w*)")
 WORD = re.compile(r"(?<![\w'\-′])([^\W\d](?:[\w'′]|-(?=\w))*)(?![\w'′])")
 
 # Names that would fall together with another one, each with the name that it gets.
@@ -75,6 +76,11 @@ def own_names():
                     j += 1
             typed = re.search(r"(→|:)\s*Type 0(\s+where)?$", kind.strip()) is not None
             found[m.group(3)].add(typed)
+    for path in texts((".antt", ".rt")):
+        for line in read(path).split("\n"):
+            if re.match(r"(pub )?(ghost )?use ", line):
+                for name in ALIAS.findall(line):
+                    found[name].add(False)
     return found
 
 

@@ -3,7 +3,7 @@ ghost use Rattle.std.specs.Prelude.{◌≡◌, ℕ, suc, ◌+◌, ◌-◌, ◌*�
 ghost use Rattle.rules.specs.declared.slot.Slot.TheVariants.{Vacant, Marked};
 ghost use Rattle.rules.specs.declared.report.Action.TheVariants.{Wipe, Mark};
 ghost use Rattle.rules.specs.Lists.{edit};
-ghost use Rattle.rules.specs.Rack.{put as put_in, with as withLists, cells as cells_in, soft, named};
+ghost use Rattle.rules.specs.Rack.{put as put_in, with as with_lists, cells as cells_in, soft, named};
 ghost use Rattle.rules.specs.Choosers.{mask_of, asked};
 ghost use Rattle.rules.specs.Calls.{row_for, held_after};
 ghost use Rattle.rules.specs.Step.{ahead, column_of, row_told, slots_after, report_of, acted, action_of, after, wiped, redirect as redirects, sets_out};
@@ -120,7 +120,7 @@ fn column_told(t: Ticket, action: Action) -> u32
 impl Tables {
     fn put_ticket(&mut self, i: usize, t: Ticket)
         requires { i < vec_len self.old.tickets }
-        ensures { rack_of self.new ≡ withLists (rack_of self.old) (slice_set (rack_of self.old).tickets i t) (rack_of self.old).slots }
+        ensures { rack_of self.new ≡ with_lists (rack_of self.old) (slice_set (rack_of self.old).tickets i t) (rack_of self.old).slots }
     {
         self.tickets[i] = t;
     }
@@ -128,14 +128,14 @@ impl Tables {
     /// The ticket leaves the board.
     fn take_out(&mut self, i: usize)
         requires { i < vec_len self.old.tickets }
-        ensures { rack_of self.new ≡ withLists (rack_of self.old) (take i (rack_of self.old).tickets ++ drop (i + 1) (rack_of self.old).tickets) (rack_of self.old).slots }
+        ensures { rack_of self.new ≡ with_lists (rack_of self.old) (take i (rack_of self.old).tickets ++ drop (i + 1) (rack_of self.old).tickets) (rack_of self.old).slots }
     {
         let _ = self.tickets.remove(i);
     }
 
     fn put_slot(&mut self, column: u32, row: u32, slot: Slot)
         requires { (column < self.old.columns) × ((1 ≤ row) × (row ≤ self.old.rows)) }
-        ensures { rack_of self.new ≡ withLists (rack_of self.old) (rack_of self.old).tickets (put_in self.old.rows (rack_of self.old).slots column row slot) }
+        ensures { rack_of self.new ≡ with_lists (rack_of self.old) (rack_of self.old).tickets (put_in self.old.rows (rack_of self.old).slots column row slot) }
     {
         let at = column as usize * self.rows as usize + (row as usize - 1);
         self.slots[at] = slot;
@@ -187,7 +187,7 @@ impl Tables {
     /// What an action writes: a mark in a slot, or a slot made vacant.
     fn write(&mut self, t: Ticket, action: Action, column: u32, row: u32)
         requires { Writes (rack_of self.old) action column row }
-        ensures { rack_of self.new ≡ withLists (rack_of self.old) (rack_of self.old).tickets (slots_after (rack_of self.old) t column row action) }
+        ensures { rack_of self.new ≡ with_lists (rack_of self.old) (rack_of self.old).tickets (slots_after (rack_of self.old) t column row action) }
     {
         match action {
             Action::Wipe => self.put_slot(column, row, Slot::Vacant),

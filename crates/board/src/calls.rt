@@ -1,7 +1,7 @@
 //! The calls on the tables, each by its definition.
 ghost use Rattle.std.specs.Prelude.{◌≡◌, ℕ, ◌+◌, ◌*◌, ◌<◌, ◌≤◌, true, not, length, Ok, Err};
 ghost use Rattle.rules.specs.Rack.{is_vacant};
-ghost use Rattle.rules.specs.Calls.{within as in_range, openable as canOpen, open' as openCall, admission as admitted, book as bookCall, collect as collectCall, drop' as dropCall, back as backCall, row as rowCall, show as showCall, stage_at, withdrawn as afterDrop};
+ghost use Rattle.rules.specs.Calls.{within as in_range, openable as can_open, open' as open_call, admission as admitted, book as book_call, collect as collect_call, drop' as drop_call, back as back_call, row as row_call, show as show_call, stage_at, withdrawn as after_drop};
 ghost use Rattle.rules.specs.Lists.{unit, count_of};
 ghost use Rattle.rules.specs.Sound.{Rising, Sound};
 ghost use Rattle.board.specs.Reading.{rack_of, Named};
@@ -25,7 +25,7 @@ fn within(low: u32, high: u32, n: u32) -> bool
 
 /// The limits of an opening.
 fn openable(rows: u32, columns: u32, places: u32, lead: u32, first: u32) -> bool
-    ensures { result ≡ canOpen (record { rows = rows; columns = columns; places = places; lead = lead }) first }
+    ensures { result ≡ can_open (record { rows = rows; columns = columns; places = places; lead = lead }) first }
 {
     within(1, 16, rows)
         && within(1, 256, columns)
@@ -36,7 +36,7 @@ fn openable(rows: u32, columns: u32, places: u32, lead: u32, first: u32) -> bool
 
 /// What a ticket becomes when its booking is withdrawn: it leaves, if it has no mark.
 fn withdrawn(t: Ticket) -> Option<Ticket>
-    ensures { afterDrop t ≡ list_of result }
+    ensures { after_drop t ≡ list_of result }
 {
     if t.marks == 0 {
         return None;
@@ -56,8 +56,8 @@ impl Tables {
         lead: u32,
         first: u32,
     ) -> Result<(), Refusal>
-        ensures answer { result ≡ (openCall (rack_of self.old) (record { rows = rows; columns = columns; places = places; lead = lead }) first).answer }
-        ensures rack { rack_of self.new ≡ (openCall (rack_of self.old) (record { rows = rows; columns = columns; places = places; lead = lead }) first).rack }
+        ensures answer { result ≡ (open_call (rack_of self.old) (record { rows = rows; columns = columns; places = places; lead = lead }) first).answer }
+        ensures rack { rack_of self.new ≡ (open_call (rack_of self.old) (record { rows = rows; columns = columns; places = places; lead = lead }) first).rack }
     {
         if !openable(rows, columns, places, lead, first) {
             return Err(Refusal::Limits);
@@ -94,8 +94,8 @@ impl Tables {
     }
 
     pub(crate) fn book(&mut self, request: Request) -> Result<u32, Refusal>
-        ensures answer { result ≡ (bookCall (rack_of self.old) request).answer }
-        ensures rack { rack_of self.new ≡ (bookCall (rack_of self.old) request).rack }
+        ensures answer { result ≡ (book_call (rack_of self.old) request).answer }
+        ensures rack { rack_of self.new ≡ (book_call (rack_of self.old) request).rack }
     {
         if let Some(refusal) = self.admission(request) {
             return Err(refusal);
@@ -128,8 +128,8 @@ impl Tables {
 
     pub(crate) fn collect(&mut self, number: u32) -> Result<Option<Span>, Refusal>
         requires { Sound (rack_of self.old) }
-        ensures answer { result ≡ (collectCall (rack_of self.old) number).answer }
-        ensures rack { rack_of self.new ≡ (collectCall (rack_of self.old) number).rack }
+        ensures answer { result ≡ (collect_call (rack_of self.old) number).answer }
+        ensures rack { rack_of self.new ≡ (collect_call (rack_of self.old) number).rack }
     {
         let (i, t) = self.named(number)?;
         match t.phase {
@@ -157,8 +157,8 @@ impl Tables {
 
     pub(crate) fn withdraw(&mut self, number: u32) -> Result<(), Refusal>
         requires { Sound (rack_of self.old) }
-        ensures answer { result ≡ (dropCall (rack_of self.old) number).answer }
-        ensures rack { rack_of self.new ≡ (dropCall (rack_of self.old) number).rack }
+        ensures answer { result ≡ (drop_call (rack_of self.old) number).answer }
+        ensures rack { rack_of self.new ≡ (drop_call (rack_of self.old) number).rack }
     {
         let (i, t) = self.named(number)?;
         match t.phase {
@@ -172,8 +172,8 @@ impl Tables {
 
     pub(crate) fn back(&mut self, number: u32) -> Result<(), Refusal>
         requires { Sound (rack_of self.old) }
-        ensures answer { result ≡ (backCall (rack_of self.old) number).answer }
-        ensures rack { rack_of self.new ≡ (backCall (rack_of self.old) number).rack }
+        ensures answer { result ≡ (back_call (rack_of self.old) number).answer }
+        ensures rack { rack_of self.new ≡ (back_call (rack_of self.old) number).rack }
     {
         let (i, t) = self.named(number)?;
         match t.phase {
@@ -219,7 +219,7 @@ fn marks_among(cells: &[Slot]) -> u32
 impl Tables {
     pub(crate) fn row(&self, number: u32, offset: u32) -> Result<u32, Refusal>
         requires { Sound (rack_of self.now) }
-        ensures { result ≡ rowCall (rack_of self.now) number offset }
+        ensures { result ≡ row_call (rack_of self.now) number offset }
     {
         let (_i, t) = self.named(number)?;
         match t.phase {
@@ -235,7 +235,7 @@ impl Tables {
     }
 
     pub(crate) fn show(&self, column: u32) -> Result<u32, Refusal>
-        ensures { result ≡ showCall (rack_of self.now) column }
+        ensures { result ≡ show_call (rack_of self.now) column }
     {
         if column >= self.columns {
             return Err(Refusal::Columns);

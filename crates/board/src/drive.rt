@@ -2,7 +2,7 @@
 ghost use Rattle.std.specs.Prelude.{◌≡◌, min, length};
 ghost use Rattle.lists.specs.Contents.{room_of, entered};
 ghost use Rattle.lists.specs.Reading.{contents_of};
-ghost use Rattle.rules.specs.Calls.{steps, drive as driveCall};
+ghost use Rattle.rules.specs.Calls.{steps, drive as drive_call};
 ghost use Rattle.rules.specs.Laws.{reported, Carries};
 ghost use Rattle.rules.specs.Play.{DriveCounts, DriveEnds};
 ghost use Rattle.board.specs.Face.{rack_in};
@@ -52,14 +52,14 @@ impl Board {
         journal: &mut Journal<Report>,
         chooser: &mut C,
     ) -> Result<(u32, Stage), Refusal>
-        ensures answer { result ≡ (driveCall C.Chooser.meaning (rack_in self.old) number budget (room_of (contents_of journal.old)) chooser.old).answer }
-        ensures rack { rack_in self.new ≡ (driveCall C.Chooser.meaning (rack_in self.old) number budget (room_of (contents_of journal.old)) chooser.old).ran.rack }
-        ensures chooser { chooser.new ≡ (driveCall C.Chooser.meaning (rack_in self.old) number budget (room_of (contents_of journal.old)) chooser.old).ran.held }
-        ensures journal { contents_of journal.new ≡ entered (contents_of journal.old) (driveCall C.Chooser.meaning (rack_in self.old) number budget (room_of (contents_of journal.old)) chooser.old).ran.reports }
+        ensures answer { result ≡ (drive_call C.Chooser.meaning (rack_in self.old) number budget (room_of (contents_of journal.old)) chooser.old).answer }
+        ensures rack { rack_in self.new ≡ (drive_call C.Chooser.meaning (rack_in self.old) number budget (room_of (contents_of journal.old)) chooser.old).ran.rack }
+        ensures chooser { chooser.new ≡ (drive_call C.Chooser.meaning (rack_in self.old) number budget (room_of (contents_of journal.old)) chooser.old).ran.held }
+        ensures journal { contents_of journal.new ≡ entered (contents_of journal.old) (drive_call C.Chooser.meaning (rack_in self.old) number budget (room_of (contents_of journal.old)) chooser.old).ran.reports }
         ensures place { journal.new.slots.ghost_name ≡ journal.old.slots.ghost_name }
         ensures counts { DriveCounts C.Chooser.meaning }
         ensures ends { DriveEnds C.Chooser.meaning }
-        ensures history { Carries (reported (driveCall C.Chooser.meaning (rack_in self.old) number budget (room_of (contents_of journal.old)) chooser.old).ran.reports) (rack_in self.old) (rack_in self.new) }
+        ensures history { Carries (reported (drive_call C.Chooser.meaning (rack_in self.old) number budget (room_of (contents_of journal.old)) chooser.old).ran.reports) (rack_in self.old) (rack_in self.new) }
     {
         self.tables.soft_place(number)?;
         if journal.is_full() {

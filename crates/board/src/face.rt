@@ -1,7 +1,7 @@
 //! The public calls.
 ghost use Rattle.std.specs.Prelude.{◌≡◌, [], IfOk, Ok};
 ghost use Rattle.rules.specs.Rack.{never_opened};
-ghost use Rattle.rules.specs.Calls.{open' as openCall, book as bookCall, step as stepCall, collect as collectCall, drop' as dropCall, back as backCall, row as rowCall, show as showCall, stage_at};
+ghost use Rattle.rules.specs.Calls.{open' as open_call, book as book_call, step as step_call, collect as collect_call, drop' as drop_call, back as back_call, row as row_call, show as show_call, stage_at};
 ghost use Rattle.rules.specs.History.{Event, Reaches};
 ghost use Rattle.rules.specs.Laws.{told, Carries};
 ghost use Rattle.rules.specs.Sound.{Reached};
@@ -53,8 +53,8 @@ impl Board {
         lead: u32,
         first: u32,
     ) -> Result<(), Refusal>
-        ensures answer { result ≡ (openCall (rack_in self.old) (record { rows = rows; columns = columns; places = places; lead = lead }) first).answer }
-        ensures rack { rack_in self.new ≡ (openCall (rack_in self.old) (record { rows = rows; columns = columns; places = places; lead = lead }) first).rack }
+        ensures answer { result ≡ (open_call (rack_in self.old) (record { rows = rows; columns = columns; places = places; lead = lead }) first).answer }
+        ensures rack { rack_in self.new ≡ (open_call (rack_in self.old) (record { rows = rows; columns = columns; places = places; lead = lead }) first).rack }
         ensures history { result ≡ Ok tt → Reaches [] (rack_in self.new) }
     {
         self.tables.open(rows, columns, places, lead, first)
@@ -62,8 +62,8 @@ impl Board {
 
     /// Books adjacent columns from a start on, and answers the booking's number.
     pub fn book(&mut self, request: Request) -> Result<u32, Refusal>
-        ensures answer { result ≡ (bookCall (rack_in self.old) request).answer }
-        ensures rack { rack_in self.new ≡ (bookCall (rack_in self.old) request).rack }
+        ensures answer { result ≡ (book_call (rack_in self.old) request).answer }
+        ensures rack { rack_in self.new ≡ (book_call (rack_in self.old) request).rack }
         ensures history { Carries (told (λ n. Event.taken n request) result) (rack_in self.old) (rack_in self.new) }
     {
         self.tables.book(request)
@@ -71,9 +71,9 @@ impl Board {
 
     /// Makes one step that names a number: one action of one ticket.
     pub fn step<C: Chooser>(&mut self, number: u32, chooser: &mut C) -> Result<Report, Refusal>
-        ensures answer { result ≡ (stepCall C.Chooser.meaning (rack_in self.old) number chooser.old).answer }
-        ensures rack { rack_in self.new ≡ (stepCall C.Chooser.meaning (rack_in self.old) number chooser.old).ran.rack }
-        ensures chooser { chooser.new ≡ (stepCall C.Chooser.meaning (rack_in self.old) number chooser.old).ran.held }
+        ensures answer { result ≡ (step_call C.Chooser.meaning (rack_in self.old) number chooser.old).answer }
+        ensures rack { rack_in self.new ≡ (step_call C.Chooser.meaning (rack_in self.old) number chooser.old).ran.rack }
+        ensures chooser { chooser.new ≡ (step_call C.Chooser.meaning (rack_in self.old) number chooser.old).ran.held }
         ensures history { Carries (told Event.stepped result) (rack_in self.old) (rack_in self.new) }
     {
         self.tables.step(number, chooser)
@@ -81,8 +81,8 @@ impl Board {
 
     /// Takes a decided booking's answer: its span, which is then out, or nothing.
     pub fn collect(&mut self, number: u32) -> Result<Option<Span>, Refusal>
-        ensures answer { result ≡ (collectCall (rack_in self.old) number).answer }
-        ensures rack { rack_in self.new ≡ (collectCall (rack_in self.old) number).rack }
+        ensures answer { result ≡ (collect_call (rack_in self.old) number).answer }
+        ensures rack { rack_in self.new ≡ (collect_call (rack_in self.old) number).rack }
         ensures history { Carries (told (λ _. Event.collected number) result) (rack_in self.old) (rack_in self.new) }
     {
         self.tables.collect(number)
@@ -90,8 +90,8 @@ impl Board {
 
     /// Withdraws an undecided booking (drop).
     pub fn withdraw(&mut self, number: u32) -> Result<(), Refusal>
-        ensures answer { result ≡ (dropCall (rack_in self.old) number).answer }
-        ensures rack { rack_in self.new ≡ (dropCall (rack_in self.old) number).rack }
+        ensures answer { result ≡ (drop_call (rack_in self.old) number).answer }
+        ensures rack { rack_in self.new ≡ (drop_call (rack_in self.old) number).rack }
         ensures history { Carries (told (λ _. Event.dropped number) result) (rack_in self.old) (rack_in self.new) }
     {
         self.tables.withdraw(number)
@@ -99,8 +99,8 @@ impl Board {
 
     /// Hands a collected grant back.
     pub fn back(&mut self, number: u32) -> Result<(), Refusal>
-        ensures answer { result ≡ (backCall (rack_in self.old) number).answer }
-        ensures rack { rack_in self.new ≡ (backCall (rack_in self.old) number).rack }
+        ensures answer { result ≡ (back_call (rack_in self.old) number).answer }
+        ensures rack { rack_in self.new ≡ (back_call (rack_in self.old) number).rack }
         ensures history { Carries (told (λ _. Event.returned number) result) (rack_in self.old) (rack_in self.new) }
     {
         self.tables.back(number)
@@ -123,14 +123,14 @@ impl Board {
 
     /// The row marked in the window's column at this offset. Nothing changes.
     pub fn row(&self, number: u32, offset: u32) -> Result<u32, Refusal>
-        ensures { result ≡ rowCall (rack_in self.now) number offset }
+        ensures { result ≡ row_call (rack_in self.now) number offset }
     {
         self.tables.row(number, offset)
     }
 
     /// How many slots of a column hold a mark. Nothing changes.
     pub fn show(&self, column: u32) -> Result<u32, Refusal>
-        ensures { result ≡ showCall (rack_in self.now) column }
+        ensures { result ≡ show_call (rack_in self.now) column }
     {
         self.tables.show(column)
     }

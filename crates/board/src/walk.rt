@@ -5,7 +5,7 @@ ghost use Rattle.rules.specs.Rack.{soft, hard};
 ghost use Rattle.rules.specs.Step.{past, led as leading};
 ghost use Rattle.rules.specs.Sound.{Sound, marks_in, booked_in};
 ghost use Rattle.board.specs.Due.{SoftPlace, Due};
-ghost use Rattle.board.specs.Reading.{rack_of, ticket_at, first_of, Placed, looks as looksAhead, mask_seen, Passes, walk_end};
+ghost use Rattle.board.specs.Reading.{rack_of, ticket_at, first_of, Placed, looks as looks_ahead, mask_seen, Passes, walk_end};
 
 use crate::look::{marks_in, place_of};
 use crate::tables::Tables;
@@ -93,7 +93,7 @@ impl Tables {
     }
 
     fn looks(&self, t: Ticket) -> bool
-        ensures { result ≡ looksAhead (rack_of self.now) t }
+        ensures { result ≡ looks_ahead (rack_of self.now) t }
     {
         t.phase.is_forward() && t.marks < t.request.length && !self.is_past(t)
     }

@@ -11,7 +11,7 @@ use Rattle.text.specs.declared.fault.LineFault.{LineFault}
 use Rattle.text.specs.Faults.{fault_of}
 use Rattle.text.specs.Frames.{kept}
 use Rattle.text.specs.Lines.{ends_once, is_line}
-use Rattle.text.specs.Pages.{no_line, over, answered as answeredText, page_with}
+use Rattle.text.specs.Pages.{no_line, over, answered as answered_text, page_with}
 use Rattle.console_next.specs.Calls.{Telling}
 use Rattle.console_next.specs.Orders.{order_of}
 use Rattle.console_next.specs.Answers.{Answered, refused_with, answered}
@@ -35,7 +35,7 @@ module _ {S : Type 0} (m : Meaning S) (line : Option (List ℕ)) (page : List �
   settles h r e = cond-false (ltb (length page) 64) _ _ (le-ltb _ _ h) ∙ ap (settled (desk_reading d) answer_on) e
 
 -- a `no` line on a page with room
-pub no_answered : (f : Fault) (page : List ℕ) → 64 ≤ length page → (answeredText (no_line f) page ≡ Ok (length (no_line f))) × (page_with (no_line f) page ≡ over (no_line f) page)
+pub no_answered : (f : Fault) (page : List ℕ) → 64 ≤ length page → (answered_text (no_line f) page ≡ Ok (length (no_line f))) × (page_with (no_line f) page ≡ over (no_line f) page)
 no_answered f page h = let e : ltb (length page) 64 ≡ false = le-ltb _ _ h in (cond-false (ltb (length page) 64) _ _ e, cond-false (ltb (length page) 64) _ _ e)
 
 module _ {S : Type 0} (m : Meaning S) where

@@ -1,6 +1,6 @@
 //! What a program holds of a booking.
 ghost use Rattle.std.specs.Prelude.{◌≡◌};
-ghost use Rattle.handles.specs.Holding.{waits as stillWaits, refused_in};
+ghost use Rattle.handles.specs.Holding.{waits as still_waits, refused_in};
 
 use rules::refusal::Refusal;
 use rules::ticket::Stage;
@@ -20,7 +20,7 @@ pub enum Refused {
 
 /// A booking in this stage still waits for the holder of its slip.
 fn waits(stage: Stage) -> bool
-    ensures { result ≡ stillWaits stage }
+    ensures { result ≡ still_waits stage }
 {
     matches!(stage, Stage::Seeking | Stage::Without | Stage::Granted)
 }

@@ -11,7 +11,7 @@ use Rattle.rules.specs.declared.report.Report.{Report}
 use Rattle.rules.specs.Lists.{unit, count_of, find}
 use Rattle.rules.specs.Rack.{Sizes, Rack, seeking, soft, hard, named, has_vacant}
 use Rattle.rules.specs.Step.{ahead, duty, action_of, after, with_phase, worked, report_of}
-use Rattle.rules.specs.Calls.{ticket_for, booked, withdrawn as afterDrop}
+use Rattle.rules.specs.Calls.{ticket_for, booked, withdrawn as after_drop}
 use Rattle.rules.specs.History.{Event, New, Reaches}
 use Rattle.rules.specs.Accounts.{takes, grants, denies, withdraws, returns}
 use Rattle.rules.proofs.Tickets.{rising_top, find_last, find_before}
@@ -157,7 +157,7 @@ fetch_turns h t e s k l = (s, grind arith, grind arith, refl)
 leave_turns : (h : List Event) (t : Ticket) → t.phase ≡ Without → Turns h (Event.collected t.number) t []
 leave_turns h t e s k l = (s, grind arith, grind arith, refl)
 
-drop_turns : (h : List Event) (t : Ticket) → seeking t.phase ≡ true → Turns h (Event.dropped t.number) t (afterDrop t)
+drop_turns : (h : List Event) (t : Ticket) → seeking t.phase ≡ true → Turns h (Event.dropped t.number) t (after_drop t)
 drop_turns h t e s k l = (Status.withdrawn, grind (arith, nat_tests), grind (arith, nat_tests), grind arith)
 
 back_turns : (h : List Event) (t : Ticket) → t.phase ≡ Out → Turns h (Event.returned t.number) t (with_phase Closing t ∷ [])
@@ -220,7 +220,7 @@ module _ (h : List Event) (x : Rack) (sd : Sound x) (kinds : (n : ℕ) → Kind 
   kind_step e y (Effect.fetches t f i) n =
       changed_kind e y t (with_phase Out t ∷ []) refl f (fetch_change x sd t f) (fetch_turns h t i) n (cases_eq n t.number)
   kind_step e y (Effect.leaves t f i) n = changed_kind e y t [] refl f (leave_change x sd t f) (leave_turns h t i) n (cases_eq n t.number)
-  kind_step e y (Effect.drops t f i) n = changed_kind e y t (afterDrop t) refl f (drop_change x sd t f) (drop_turns h t i) n (cases_eq n t.number)
+  kind_step e y (Effect.drops t f i) n = changed_kind e y t (after_drop t) refl f (drop_change x sd t f) (drop_turns h t i) n (cases_eq n t.number)
   kind_step e y (Effect.backs t f i) n =
       changed_kind e y t (with_phase Closing t ∷ []) refl f (back_change x sd t f) (back_turns h t i) n (cases_eq n t.number)
 

@@ -1,5 +1,5 @@
 //! A grant, and the line of a sheet that tells it.
-ghost use Rattle.sheets.specs.Sheets.{grant_word, grant_figures as figuresAfter};
+ghost use Rattle.sheets.specs.Sheets.{grant_word, grant_figures as figures_after};
 
 use rules::span::Span;
 use text::figures::Figures;
@@ -22,10 +22,10 @@ pub enum GrantWord {
 impl Head for GrantWord {
     ghost spelled = { grant_word };
 
-    ghost wants = { figuresAfter };
+    ghost wants = { figures_after };
 
     fn named(text: &[u8]) -> Option<GrantWord> {
-        if text == b"grant" {
+        if text == b"grant".as_slice() {
             Some(GrantWord::Grant)
         } else {
             None

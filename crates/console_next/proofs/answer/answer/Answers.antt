@@ -13,12 +13,12 @@ use Rattle.console_next.proofs.Replying.{puts_fit}
 use Rattle.console_next.proofs.Obeying.{stays, too_short, misread, denied, granted, refused_order}
 use Rattle.console_next.proofs.answer.answer.Goals as goal
 
-pub returns-in-err-check : goal.returns-in-err-check
-returns-in-err-check g c =
+pub returns-in_err-check : goal.returns-in_err-check
+returns-in_err-check g c =
     let m = g.C.Chooser.meaning in
     let x = rack_in c.args.board.now in
-    let p = err_from_is_err_and c.from-residual.result c.from-residual.ensures.1 in
-    let short = c.in-err-check.ensures in
+    let p = err_from_is_err_and c.from_residual.result c.from_residual.ensures.1 in
+    let short = c.in_err-check.ensures in
     let d = too_short m x (contents_of c.args.journal.now) c.args.chooser.now c.args.line.now c.args.page.now short.0 in
     record {
       answer = p.1 ∙ ap Err (p.2 ∙ short.1) ∙ sym (ap (λ a. a.answer) d);
@@ -27,16 +27,16 @@ returns-in-err-check g c =
       chooser = sym (ap (λ a. a.held) d);
       journal = sym (ap (λ a. a.journal) d);
       place = refl;
-      fits = IfOk-from_err _ _ c.from-residual.ensures.0;
+      fits = IfOk-from_err _ _ c.from_residual.ensures.0;
       history = subst (λ (a : Answered _). Continues a.tells x x) (sym d) (stays x);
     }
 
-pub returns-in-err-order : goal.returns-in-err-order
-returns-in-err-order g c =
+pub returns-in_err-order : goal.returns-in_err-order
+returns-in_err-order g c =
     let m = g.C.Chooser.meaning in
     let x = rack_in c.args.board.now in
-    let p = err_from_is_err_and c.from-residual-in-err-order.result c.from-residual-in-err-order.ensures.1 in
-    let d = misread m x (contents_of c.args.journal.now) c.args.chooser.now c.args.line.now c.args.page.now c.in-ok-check.ensures _ (sym c.read-order.ensures ∙ c.in-err-order.was) in
+    let p = err_from_is_err_and c.from_residual-in_err-order.result c.from_residual-in_err-order.ensures.1 in
+    let d = misread m x (contents_of c.args.journal.now) c.args.chooser.now c.args.line.now c.args.page.now c.in_ok-check.ensures _ (sym c.read_order.ensures ∙ c.in_err-order.was) in
     record {
       answer = p.1 ∙ ap Err p.2 ∙ sym (ap (λ a. a.answer) d);
       page = sym (ap (λ a. a.page) d);
@@ -44,21 +44,21 @@ returns-in-err-order g c =
       chooser = sym (ap (λ a. a.held) d);
       journal = sym (ap (λ a. a.journal) d);
       place = refl;
-      fits = IfOk-from_err _ _ c.from-residual-in-err-order.ensures.0;
+      fits = IfOk-from_err _ _ c.from_residual-in_err-order.ensures.0;
       history = subst (λ (a : Answered _). Continues a.tells x x) (sym d) (stays x);
     }
 
-pub returns-in-err-reply : goal.returns-in-err-reply
-returns-in-err-reply g c =
+pub returns-in_err-reply : goal.returns-in_err-reply
+returns-in_err-reply g c =
     let m = g.C.Chooser.meaning in
     let x = rack_in c.args.board.now in
     let j = contents_of c.args.journal.now in
     let s = c.args.chooser.now in
-    let order = c.in-ok-order.order in
-    let read = sym c.read-order.ensures ∙ c.in-ok-order.was in
-    let no = sym c.call.ensures.reply ∙ c.in-err-reply.was in
-    let p = err_from_is_err_and c.from-residual-in-err-reply.result c.from-residual-in-err-reply.ensures.1 in
-    let d = denied m x j s c.args.line.now c.args.page.now c.in-ok-check.ensures order read _ no in
+    let order = c.in_ok-order.order in
+    let read = sym c.read_order.ensures ∙ c.in_ok-order.was in
+    let no = sym c.call.ensures.reply ∙ c.in_err-reply.was in
+    let p = err_from_is_err_and c.from_residual-in_err-reply.result c.from_residual-in_err-reply.ensures.1 in
+    let d = denied m x j s c.args.line.now c.args.page.now c.in_ok-check.ensures order read _ no in
     let same = refused_order m x j s order _ no in
     let rack = c.call.ensures.rack ∙ same.rack in
     record {
@@ -68,7 +68,7 @@ returns-in-err-reply g c =
       chooser = c.call.ensures.chooser ∙ same.held ∙ sym (ap (λ a. a.held) d);
       journal = c.call.ensures.journal ∙ same.journal ∙ sym (ap (λ a. a.journal) d);
       place = c.call.ensures.place;
-      fits = IfOk-from_err _ _ c.from-residual-in-err-reply.ensures.0;
+      fits = IfOk-from_err _ _ c.from_residual-in_err-reply.ensures.0;
       history = subst (λ (a : Answered _). Continues a.tells x (rack_in c.call.new.board)) (sym d) (subst (λ (y : Rack). Carries [] x y) (sym rack) (stays x));
     }
 
@@ -78,11 +78,11 @@ returns g c =
     let x = rack_in c.args.board.now in
     let j = contents_of c.args.journal.now in
     let s = c.args.chooser.now in
-    let order = c.in-ok-order.order in
-    let reply = c.in-ok-reply.reply in
-    let read = sym c.read-order.ensures ∙ c.in-ok-order.was in
-    let yes = sym c.call.ensures.reply ∙ c.in-ok-reply.was in
-    let d = granted m x j s c.args.line.now c.args.page.now c.in-ok-check.ensures order read reply yes in
+    let order = c.in_ok-order.order in
+    let reply = c.in_ok-reply.reply in
+    let read = sym c.read_order.ensures ∙ c.in_ok-order.was in
+    let yes = sym c.call.ensures.reply ∙ c.in_ok-reply.was in
+    let d = granted m x j s c.args.line.now c.args.page.now c.in_ok-check.ensures order read reply yes in
     record {
       answer = ap Ok (c.put.ensures.ends ∙ zero-add (length (reply_text reply))) ∙ sym (ap (λ a. a.answer) d);
       page = puts_page c.args.page.now (reply_text reply) c.put.new.page c.put.result c.put.ensures ∙ sym (ap (λ a. a.page) d);

@@ -11,14 +11,14 @@ use Rattle.episode.specs.Visits.{Leads, visit_after}
 use Rattle.episode.proofs.Visiting.{leads_on, slip_next, slip_refused, slip_taken, grant_same, plain_grant, visit_is, back_served, closing_after, refused_none, nothing_none}
 use Rattle.episode.proofs.visit.visit.Goals as goal
 
-pub returns-in-err-slip : goal.returns-in-err-slip
-returns-in-err-slip g c =
-    let p = err_from_is_err_and c.from-residual.result c.from-residual.ensures.1 in
+pub returns-in_err-slip : goal.returns-in_err-slip
+returns-in_err-slip g c =
+    let p = err_from_is_err_and c.from_residual.result c.from_residual.ensures.1 in
     let x = rack_in c.args.board.now in
-    let no = slip_refused (book x c.args.request).answer _ c.in-err-slip.ensures.answer in
+    let no = slip_refused (book x c.args.request).answer _ c.in_err-slip.ensures.answer in
     record {
       answer = p.1 ∙ ap Err p.2 ∙ sym (ap (visit_after g.C.Chooser.meaning x c.args.request (room_of (contents_of c.args.reports.now)) c.args.chooser.now) no);
-      handed_back = λ span e. refused_none c.from-residual.result span c.from-residual.ensures.0 e;
+      handed_back = λ span e. refused_none c.from_residual.result span c.from_residual.ensures.0 e;
       history = (_, c.book.ensures.history);
     }
 
@@ -29,14 +29,14 @@ returns-in-err-back g c =
     let q = c.args.request in
     let room = room_of (contents_of c.args.reports.now) in
     let y = rack_in c.drive.new.board in
-    let n = c.in-ok-slip.slip.number in
-    let taken = slip_taken (book x q).answer c.in-ok-slip.slip c.in-ok-slip.ensures.answer in
+    let n = c.in_ok-slip.slip.number in
+    let taken = slip_taken (book x q).answer c.in_ok-slip.slip c.in_ok-slip.ensures.answer in
     let told = visit_is m x q room c.args.chooser.now n (rack_in c.book.new.board) y taken c.book.ensures.rack c.drive.ensures.rack in
     let window = c.in-Ok-Some.span in
     let grant : Ok (Some (c.in-Ok-Some.grant, window)) ≡ grant_for (stage_at y n) n (collect y n).answer = let t = c.in-Ok-Some.ensures.answer in cc in
     let collected = sym (plain_grant (stage_at y n) n (collect y n).answer (Ok (Some (c.in-Ok-Some.grant, window))) grant) in
-    let same = ap (λ (g : Grant). g.number) c.ask-rows-grant.ensures ∙ grant_same (stage_at y n) n (collect y n).answer c.in-Ok-Some.grant window grant in
-    back_served y (rack_in c.collect.new.board) n c.ask-rows-grant.result.number window _ collected c.collect.ensures.rack same (sym c.back.ensures.answer ∙ c.in-err-back.was)
+    let same = ap (λ (g : Grant). g.number) c.ask_rows-grant.ensures ∙ grant_same (stage_at y n) n (collect y n).answer c.in-Ok-Some.grant window grant in
+    back_served y (rack_in c.collect.new.board) n c.ask_rows-grant.result.number window _ collected c.collect.ensures.rack same (sym c.back.ensures.answer ∙ c.in-err-back.was)
 
 pub returns-in-ok-back : goal.returns-in-ok-back
 returns-in-ok-back g c =
@@ -45,17 +45,17 @@ returns-in-ok-back g c =
     let q = c.args.request in
     let room = room_of (contents_of c.args.reports.now) in
     let y = rack_in c.drive.new.board in
-    let n = c.in-ok-slip.slip.number in
-    let taken = slip_taken (book x q).answer c.in-ok-slip.slip c.in-ok-slip.ensures.answer in
+    let n = c.in_ok-slip.slip.number in
+    let taken = slip_taken (book x q).answer c.in_ok-slip.slip c.in_ok-slip.ensures.answer in
     let told = visit_is m x q room c.args.chooser.now n (rack_in c.book.new.board) y taken c.book.ensures.rack c.drive.ensures.rack in
     let grant : Ok (Some (c.in-Ok-Some.grant, c.in-Ok-Some.span)) ≡ grant_for (stage_at y n) n (collect y n).answer = let t = c.in-Ok-Some.ensures.answer in cc in
     record {
       answer = plain_grant (stage_at y n) n (collect y n).answer (Ok (Some (c.in-Ok-Some.grant, c.in-Ok-Some.span))) grant ∙ sym told;
       handed_back = λ span e.
-          closing_after (rack_in c.collect.new.board) (rack_in c.back.new.board) c.ask-rows-grant.result.number _ c.back.ensures.rack
+          closing_after (rack_in c.collect.new.board) (rack_in c.back.new.board) c.ask_rows-grant.result.number _ c.back.ensures.rack
           (sym c.back.ensures.answer ∙ c.in-ok-back.was)
-          (ap (λ (g : Grant). g.number) c.ask-rows-grant.ensures
-          ∙ (grant_same (stage_at y n) n (collect y n).answer c.in-Ok-Some.grant c.in-Ok-Some.span grant ∙ slip_next x q c.in-ok-slip.slip c.in-ok-slip.ensures.answer));
+          (ap (λ (g : Grant). g.number) c.ask_rows-grant.ensures
+          ∙ (grant_same (stage_at y n) n (collect y n).answer c.in-Ok-Some.grant c.in-Ok-Some.span grant ∙ slip_next x q c.in_ok-slip.slip c.in_ok-slip.ensures.answer));
       history = leads_on _ _ _ _ (leads_on _ _ _ _ (leads_on _ _ _ _ (_, c.book.ensures.history) c.drive.ensures.history) c.collect.ensures.history) c.back.ensures.history;
     }
 
@@ -66,8 +66,8 @@ returns-in-Ok-None g c =
     let q = c.args.request in
     let room = room_of (contents_of c.args.reports.now) in
     let y = rack_in c.drive.new.board in
-    let n = c.in-ok-slip.slip.number in
-    let taken = slip_taken (book x q).answer c.in-ok-slip.slip c.in-ok-slip.ensures.answer in
+    let n = c.in_ok-slip.slip.number in
+    let taken = slip_taken (book x q).answer c.in_ok-slip.slip c.in_ok-slip.ensures.answer in
     let told = visit_is m x q room c.args.chooser.now n (rack_in c.book.new.board) y taken c.book.ensures.rack c.drive.ensures.rack in
     let none : Ok None ≡ grant_for (stage_at y n) n (collect y n).answer = let t = c.in-Ok-None.ensures.answer in cc in
     record {
@@ -83,8 +83,8 @@ returns-in-Err-Ended g c =
     let q = c.args.request in
     let room = room_of (contents_of c.args.reports.now) in
     let y = rack_in c.drive.new.board in
-    let n = c.in-ok-slip.slip.number in
-    let taken = slip_taken (book x q).answer c.in-ok-slip.slip c.in-ok-slip.ensures.answer in
+    let n = c.in_ok-slip.slip.number in
+    let taken = slip_taken (book x q).answer c.in_ok-slip.slip c.in_ok-slip.ensures.answer in
     let told = visit_is m x q room c.args.chooser.now n (rack_in c.book.new.board) y taken c.book.ensures.rack c.drive.ensures.rack in
     let ended : Err (refused.Ended c.in-Err-Ended.refusal) ≡ grant_for (stage_at y n) n (collect y n).answer = let t = c.in-Err-Ended.ensures.answer in cc in
     record {
@@ -100,8 +100,8 @@ returns-in-Ok g c =
     let q = c.args.request in
     let room = room_of (contents_of c.args.reports.now) in
     let y = rack_in c.drive.new.board in
-    let n = c.in-ok-slip.slip.number in
-    let taken = slip_taken (book x q).answer c.in-ok-slip.slip c.in-ok-slip.ensures.answer in
+    let n = c.in_ok-slip.slip.number in
+    let taken = slip_taken (book x q).answer c.in_ok-slip.slip c.in_ok-slip.ensures.answer in
     let told = visit_is m x q room c.args.chooser.now n (rack_in c.book.new.board) y taken c.book.ensures.rack c.drive.ensures.rack in
     let kept : Err (refused.Kept c.in-Err-Kept.slip c.in-Err-Kept.refusal) ≡ grant_for (stage_at y n) n (collect y n).answer = let t = c.in-Err-Kept.ensures.answer in cc in
     record {

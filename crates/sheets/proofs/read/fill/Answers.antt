@@ -7,33 +7,33 @@ use Rattle.sheets.proofs.Passing.{Underway, underway_more, underway_all, underwa
 use Rattle.sheets.proofs.read.fill.Goals as goal
 
 -- the grants with the next one
-more : (c : goal.In-ok-grant) → Underway c.args.sheet.now (take c.loop-rest.count c.loop-rest.list ++ (c.in-ok-grant.grant ∷ [])) (c.loop-rest.count + 1) c.in-ok-grant.grant.number c.next-line.result.1.now
-more c = underway_more c.loop-rest.invariant.0 c.next-line.result.1.now c.next-line.ensures c.in-ok-grant.grant (sym c.read-numbered.ensures ∙ c.in-ok-grant.was)
+more : (c : goal.In_ok-grant) → Underway c.args.sheet.now (take c.loop-rest.count c.loop-rest.list ++ (c.in_ok-grant.grant ∷ [])) (c.loop-rest.count + 1) c.in_ok-grant.grant.number c.next_line.result.1.now
+more c = underway_more c.loop-rest.invariant.0 c.next_line.result.1.now c.next_line.ensures c.in_ok-grant.grant (sym c.read_numbered.ensures ∙ c.in_ok-grant.was)
 
 -- there is a place for it
-place : (c : goal.In-ok-grant) → c.loop-rest.count < length c.loop-rest.list
+place : (c : goal.In_ok-grant) → c.loop-rest.count < length c.loop-rest.list
 place c =
     let room = room_parts (sheet_read c.args.sheet.now) c.args.list.now c.requires in
     let few = underway_few (more c) room.0 room.1 in
     omega (arith, room.2, (more c).many, c.loop-rest.auto.list)
 
-pub overflow-add-count : goal.overflow-add-count
-overflow-add-count c = omega (arith, lines_few c.args.sheet.now, ap length c.next-line.ensures, c.loop-rest.invariant.0.few)
+pub overflow_add-count : goal.overflow_add-count
+overflow_add-count c = omega (arith, lines_few c.args.sheet.now, ap length c.next_line.ensures, c.loop-rest.invariant.0.few)
 
-pub offset-bounds-list-count : goal.offset-bounds-list-count
-offset-bounds-list-count c = omega (arith, place c)
+pub offset_bounds-list-count : goal.offset_bounds-list-count
+offset_bounds-list-count c = omega (arith, place c)
 
 pub bounds-list-count : goal.bounds-list-count
 bounds-list-count c = place c
 
-pub overflow-add-count-in-loop-rest : goal.overflow-add-count-in-loop-rest
-overflow-add-count-in-loop-rest c = omega (arith, place c)
+pub overflow_add-count-in-loop-rest : goal.overflow_add-count-in-loop-rest
+overflow_add-count-in-loop-rest c = omega (arith, place c)
 
 pub loop-rest-preserved : goal.loop-rest-preserved
 loop-rest-preserved c = (
-  subst (λ gs. Underway c.args.sheet.now gs (c.loop-rest.count + 1) c.in-ok-grant.grant.number c.next-line.result.1.now)
-      (sym (take_more_set c.loop-rest.list c.loop-rest.count c.in-ok-grant.grant (place c))) (more c),
-  past_more c.loop-rest.list c.args.list.now c.loop-rest.count c.in-ok-grant.grant c.loop-rest.invariant.1,
+  subst (λ gs. Underway c.args.sheet.now gs (c.loop-rest.count + 1) c.in_ok-grant.grant.number c.next_line.result.1.now)
+      (sym (take_more_set c.loop-rest.list c.loop-rest.count c.in_ok-grant.grant (place c))) (more c),
+  past_more c.loop-rest.list c.args.list.now c.loop-rest.count c.in_ok-grant.grant c.loop-rest.invariant.1,
 )
 
 pub returns : goal.returns

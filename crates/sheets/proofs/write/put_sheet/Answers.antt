@@ -3,11 +3,11 @@ use Rattle.std.proofs.lemmas.List.{append-nil}
 use Rattle.text.specs.Pages.{Puts}
 use Rattle.sheets.proofs.Texts.{told_room, told_more, told_all, puts_none, puts_at}
 use Rattle.sheets.proofs.write.put_sheet.Goals as goal
-use Rattle.sheets.proofs.write.put_sheet.Goals.{in-Some, in-default}
+use Rattle.sheets.proofs.write.put_sheet.Goals.{in-Some, in_default}
 
-pub put-grant-end-requires : goal.put-grant-end-requires
-put-grant-end-requires c =
-    let room = told_room c.args.tickets.now c.loop-ticket.ticket-index c.loop-ticket-test.true _ (sym c.in-Some.is ∙ c.grant-of.ensures) c.loop-ticket.invariant.0 _ c.loop-ticket.invariant.2 in
+pub put_grant-end-requires : goal.put_grant-end-requires
+put_grant-end-requires c =
+    let room = told_room c.args.tickets.now c.loop-ticket.ticket-index c.loop-ticket-test.true _ (sym c.in-Some.is ∙ c.grant_of.ensures) c.loop-ticket.invariant.0 _ c.loop-ticket.invariant.2 in
     omega (arith, c.loop-ticket.invariant.1.ends)
 
 pub loop-ticket-init : goal.loop-ticket-init
@@ -15,13 +15,13 @@ loop-ticket-init c = ([], puts_none c.args.page.now _ 0 0 refl refl, refl)
 
 pub loop-ticket-preserved : goal.loop-ticket-preserved
 loop-ticket-preserved c =
-    elim c.match-grant-of.branch [
+    elim c.match-grant_of.branch [
       | in-Some w ↦
-          told_more c.args.tickets.now c.loop-ticket.ticket-index c.loop-ticket-test.true _ (sym w.in-Some.is ∙ c.grant-of.ensures)
+          told_more c.args.tickets.now c.loop-ticket.ticket-index c.loop-ticket-test.true _ (sym w.in-Some.is ∙ c.grant_of.ensures)
           c.loop-ticket.invariant.1 c.loop-ticket.invariant.2
-          (puts_at w.put-grant-end.ensures w.page-is w.end-is)
-      | in-default w ↦
-          told_more c.args.tickets.now c.loop-ticket.ticket-index c.loop-ticket-test.true _ (sym w.in-default.is ∙ c.grant-of.ensures)
+          (puts_at w.put_grant-end.ensures w.page-is w.end-is)
+      | in_default w ↦
+          told_more c.args.tickets.now c.loop-ticket.ticket-index c.loop-ticket-test.true _ (sym w.in_default.is ∙ c.grant_of.ensures)
           c.loop-ticket.invariant.1 c.loop-ticket.invariant.2
           (puts_none c.loop-ticket.page _ c.loop-ticket.end _ w.page-is w.end-is)
     ]

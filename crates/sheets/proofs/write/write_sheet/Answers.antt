@@ -6,11 +6,11 @@ use Rattle.sheets.proofs.Texts.{written, unwritten}
 use Rattle.sheets.proofs.Trips.{rack_back}
 use Rattle.sheets.proofs.write.write_sheet.Goals as goal
 
-pub returns-then-page-sheet-len : goal.returns-then-page-sheet-len
-returns-then-page-sheet-len c =
+pub returns-then-page-sheet_len : goal.returns-then-page-sheet_len
+returns-then-page-sheet_len c =
     let text = sheet_text (grants_out (rack_in c.args.board.now)) in
     let same : sheet_text (out_among c.tickets-tickets.result.now) ≡ text = ap (λ ts. sheet_text (out_among ts)) c.tickets-tickets.ensures.tickets in
-    let w = unwritten c.args.page.now text (omega (arith, ap length same, c.sheet-len.ensures, c.if-page-sheet-len.true)) in
+    let w = unwritten c.args.page.now text (omega (arith, ap length same, c.sheet_len.ensures, c.if-page-sheet_len.true)) in
     record { answer = ap Err c.new.ensures ∙ w.0; page = w.1; reads_back = rack_back (rack_in c.args.board.now) c.tickets-tickets.ensures.reached }
 
 pub returns : goal.returns
@@ -18,7 +18,7 @@ returns c =
     let text = sheet_text (grants_out (rack_in c.args.board.now)) in
     let same : sheet_text (out_among c.tickets-tickets.result.now) ≡ text = ap (λ ts. sheet_text (out_among ts)) c.tickets-tickets.ensures.tickets in
     let w =
-    written c.args.page.now text c.put-sheet.new.page c.put-sheet.result
-    (omega (arith, ap length same, c.sheet-len.ensures, c.if-page-sheet-len.false))
-    (subst (λ xs. Puts c.args.page.now 0 xs c.put-sheet.new.page c.put-sheet.result) same c.put-sheet.ensures) in
+    written c.args.page.now text c.put_sheet.new.page c.put_sheet.result
+    (omega (arith, ap length same, c.sheet_len.ensures, c.if-page-sheet_len.false))
+    (subst (λ xs. Puts c.args.page.now 0 xs c.put_sheet.new.page c.put_sheet.result) same c.put_sheet.ensures) in
     record { answer = w.0; page = w.1; reads_back = rack_back (rack_in c.args.board.now) c.tickets-tickets.ensures.reached }

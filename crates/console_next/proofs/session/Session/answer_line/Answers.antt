@@ -8,10 +8,10 @@ use Rattle.console_next.specs.Sessions.{line_answered}
 use Rattle.console_next.proofs.Obeying.{stays}
 use Rattle.console_next.proofs.session.Session.answer_line.Goals as goal
 
-pub returns-in-default : goal.returns-in-default
-returns-in-default g c =
+pub returns-in_default : goal.returns-in_default
+returns-in_default g c =
     let x = rack_in c.args.self.now.board in
-    let d = ap (λ l. line_answered g.C.Chooser.meaning (option_map (λ x. x.now) l) c.args.page.now x (contents_of c.args.reports.now) c.args.self.now.chooser) c.in-default.is in
+    let d = ap (λ l. line_answered g.C.Chooser.meaning (option_map (λ x. x.now) l) c.args.page.now x (contents_of c.args.reports.now) c.args.self.now.chooser) c.in_default.is in
     record {
       answer = ap Err c.new.ensures ∙ sym (ap (λ a. a.answer) d);
       page = sym (ap (λ a. a.page) d);

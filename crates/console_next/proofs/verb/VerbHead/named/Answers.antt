@@ -2,4 +2,4 @@ use Rattle.console_next.proofs.Naming.{names_is}
 use Rattle.console_next.proofs.verb.VerbHead.named.Goals as goal
 
 pub returns : goal.returns
-returns c = names_is c.args.text.now c.verb-of.result c.verb-of.ensures
+returns c = names_is c.args.text.now c.verb_of.result c.verb_of.ensures
