@@ -37,5 +37,6 @@ fn main(rt: HostRuntime) -> io::Result<()> {
         Ok(None) => println!(rt; "no window")?,
         Err(refusal) => println!(rt; "refused {}", refusal.number())?,
     }
-    println!(rt; "steps {} rows {:?}", reports.len(), rows.entries())
+    let told = rows.entries();
+    println!(rt; "steps {} rows {:?}", reports.len(), told)
 }

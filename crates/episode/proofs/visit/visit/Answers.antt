@@ -22,8 +22,8 @@ returns-in_err-slip g c =
       history = (_, c.book.ensures.history);
     }
 
-pub returns-in-err-back : goal.returns-in-err-back
-returns-in-err-back g c =
+pub returns-in_err-back-in-Ok-Some : goal.returns-in_err-back-in-Ok-Some
+returns-in_err-back-in-Ok-Some g c =
     let m = g.C.Chooser.meaning in
     let x = rack_in c.args.board.now in
     let q = c.args.request in
@@ -36,10 +36,10 @@ returns-in-err-back g c =
     let grant : Ok (Some (c.in-Ok-Some.grant, window)) ≡ grant_for (stage_at y n) n (collect y n).answer = let t = c.in-Ok-Some.ensures.answer in cc in
     let collected = sym (plain_grant (stage_at y n) n (collect y n).answer (Ok (Some (c.in-Ok-Some.grant, window))) grant) in
     let same = ap (λ (g : Grant). g.number) c.ask_rows-grant.ensures ∙ grant_same (stage_at y n) n (collect y n).answer c.in-Ok-Some.grant window grant in
-    back_served y (rack_in c.collect.new.board) n c.ask_rows-grant.result.number window _ collected c.collect.ensures.rack same (sym c.back.ensures.answer ∙ c.in-err-back.was)
+    back_served y (rack_in c.collect.new.board) n c.ask_rows-grant.result.number window _ collected c.collect.ensures.rack same (sym c.back.ensures.answer ∙ c.in_err-back-in-Ok-Some.was)
 
-pub returns-in-ok-back : goal.returns-in-ok-back
-returns-in-ok-back g c =
+pub returns-in_ok-back-in-Ok-Some : goal.returns-in_ok-back-in-Ok-Some
+returns-in_ok-back-in-Ok-Some g c =
     let m = g.C.Chooser.meaning in
     let x = rack_in c.args.board.now in
     let q = c.args.request in
@@ -53,7 +53,7 @@ returns-in-ok-back g c =
       answer = plain_grant (stage_at y n) n (collect y n).answer (Ok (Some (c.in-Ok-Some.grant, c.in-Ok-Some.span))) grant ∙ sym told;
       handed_back = λ span e.
           closing_after (rack_in c.collect.new.board) (rack_in c.back.new.board) c.ask_rows-grant.result.number _ c.back.ensures.rack
-          (sym c.back.ensures.answer ∙ c.in-ok-back.was)
+          (sym c.back.ensures.answer ∙ c.in_ok-back-in-Ok-Some.was)
           (ap (λ (g : Grant). g.number) c.ask_rows-grant.ensures
           ∙ (grant_same (stage_at y n) n (collect y n).answer c.in-Ok-Some.grant c.in-Ok-Some.span grant ∙ slip_next x q c.in_ok-slip.slip c.in_ok-slip.ensures.answer));
       history = leads_on _ _ _ _ (leads_on _ _ _ _ (leads_on _ _ _ _ (_, c.book.ensures.history) c.drive.ensures.history) c.collect.ensures.history) c.back.ensures.history;
