@@ -86,11 +86,11 @@ fn journal_of_numbers(rt: HostRuntime) {
     assert_eq!(rt; journal.push(1), Ok(()));
     assert_eq!(rt; journal.push(2), Ok(()));
     assert_eq!(rt; journal.room(), 1);
-    assert_eq!(rt; journal.entries(), &[1, 2]);
+    assert_eq!(rt; journal.entries(), [1u32, 2].as_slice());
     journal.clear();
     assert_eq!(rt; journal.len(), 0);
     assert_eq!(rt; journal.push(3), Ok(()));
-    assert_eq!(rt; &places[0..3], &[3, 2, 9]);
+    assert_eq!(rt; &places[0..3], [3u32, 2, 9].as_slice());
 }
 
 #[test]
