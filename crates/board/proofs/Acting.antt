@@ -1,13 +1,12 @@
 -- Which action a ticket does, by the mask that was seen ahead of it; and what the actions make of the rack.
-use Rattle.std.proofs.Common.{◌≡◌, ℕ, suc, ◌+◌, ◌-◌, ◌<◌, ◌≤◌, Bool, true, false, cond, not, ◌&&◌, ◌||◌, eqb, ltb, leb, List, [], ◌∷◌, ◌++◌, length, take, drop, set, sym, refl, ap, ◌∙◌, subst, arith}
+use Rattle.std.proofs.Common.{◌≡◌, ℕ, ◌≤◌, true, false, cond, sym, refl, ◌∙◌, arith}
 use Rattle.std.proofs.lemmas.Bool.{not-false, not-true, eq-eqb, ne_eqb, lt-ltb}
 use Rattle.rules.specs.declared.ticket.Ticket.{Ticket}
 use Rattle.rules.specs.declared.ticket.Phase.{Phase}
 use Rattle.rules.specs.declared.ticket.Phase.TheVariants.{Forward, Backing, Without, Granted, Out, Closing}
-use Rattle.rules.specs.declared.report.Action.{Action}
 use Rattle.rules.specs.declared.report.Action.TheVariants as action
 use Rattle.rules.specs.Rack.{Rack, soft, cells, has_vacant}
-use Rattle.rules.specs.Step.{is_forward, retreats, past, complete, ahead, duty, action_of}
+use Rattle.rules.specs.Step.{is_forward, retreats, past, ahead, action_of}
 use Rattle.rules.specs.Choosers.{mask_of}
 use Rattle.rules.proofs.Masks.{mask_zero}
 use Rattle.board.specs.Reading.{looks, mask_seen}

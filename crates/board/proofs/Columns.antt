@@ -1,9 +1,9 @@
 -- Loops over the cells of a column: the mask, and the row of a mark.
-use Rattle.std.proofs.Common.{◌≡◌, ℕ, zero, suc, ◌+◌, ◌-◌, ◌*◌, ◌^◌, ◌<◌, ◌≤◌, Bool, true, false, cond, not, eqb, List, [], ◌∷◌, length, get_or, drop, sym, refl, ap, ◌∙◌, pow-suc, arith, length-drop, pow_mono}
+use Rattle.std.proofs.Common.{◌≡◌, ℕ, suc, ◌+◌, ◌-◌, ◌*◌, ◌^◌, ◌<◌, ◌≤◌, Bool, true, false, cond, eqb, List, [], ◌∷◌, length, get_or, drop, refl, ap, ◌∙◌, pow-suc, arith, length-drop, pow_mono}
 use Rattle.std.proofs.lemmas.List.{at_drop_more, at_drop_all}
 use Rattle.std.proofs.lemmas.Bool.Decides.{nat_tests}
 use Rattle.rules.specs.declared.slot.Slot.{Slot}
-use Rattle.rules.specs.declared.slot.Slot.TheVariants.{Vacant, Marked}
+use Rattle.rules.specs.declared.slot.Slot.TheVariants.{Vacant}
 use Rattle.rules.specs.Lists.{unit, count_of}
 use Rattle.rules.specs.Rack.{is_vacant, holds, row_of}
 use Rattle.rules.specs.Choosers.{mask_of}

@@ -1,9 +1,9 @@
 -- The loop over the tickets that finds who has marks in a column.
-use Rattle.std.proofs.Common.{◌≡◌, ℕ, suc, ◌+◌, ◌<◌, ◌≤◌, Bool, true, false, cond, ◌&&◌, List, [], ◌∷◌, length, get_or, drop, Some, None, Option, sym, refl, ap, ◌∙◌, subst, arith}
+use Rattle.std.proofs.Common.{◌≡◌, ℕ, ◌+◌, ◌<◌, ◌≤◌, Bool, true, false, cond, ◌&&◌, List, length, get_or, drop, Some, None, Option, sym, refl, subst, arith}
 use Rattle.std.proofs.lemmas.List.{at_drop_more, at_drop_all}
 use Rattle.rules.specs.declared.ticket.Ticket.{Ticket}
 use Rattle.rules.specs.Lists.{unit, find}
-use Rattle.rules.specs.Rack.{soft, hard}
+use Rattle.rules.specs.Rack.{hard}
 use Rattle.rules.specs.Sound.{marks_in, booked_in}
 use Rattle.board.specs.Reading.{no_ticket, first_of, Placed}
 use Rattle.board.proofs.Places.{find_hit, find_miss, find_end}

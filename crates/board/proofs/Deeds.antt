@@ -1,6 +1,6 @@
 -- What holds of the ticket at a place when it does its action.
-use Rattle.std.proofs.Common.{◌≡◌, ℕ, suc, ◌+◌, ◌-◌, ◌<◌, ◌≤◌, Bool, true, false, cond, not, eqb, List, length, Option, sym, refl, ap, ◌∙◌, subst, arith}
-use Rattle.std.proofs.lemmas.Bool.{lt-ltb, le-ltb, eqb-true}
+use Rattle.std.proofs.Common.{◌≡◌, ℕ, ◌+◌, ◌-◌, ◌<◌, ◌≤◌, true, false, not, eqb, length, Option, sym, refl, ap, ◌∙◌, subst, arith}
+use Rattle.std.proofs.lemmas.Bool.{lt-ltb, le-ltb}
 use Rattle.rules.specs.declared.ticket.Ticket.{Ticket}
 use Rattle.rules.specs.declared.ticket.Phase.{Phase}
 use Rattle.rules.specs.declared.ticket.Phase.TheVariants.{Forward, Backing, Without, Granted, Out, Closing}
@@ -9,7 +9,7 @@ use Rattle.rules.specs.declared.report.Action.{Action}
 use Rattle.rules.specs.declared.report.Action.TheVariants as action
 use Rattle.rules.specs.Lists.{edit}
 use Rattle.rules.specs.Rack.{Sizes, Rack, soft, named, cells, has_vacant, row_of, with}
-use Rattle.rules.specs.Step.{ahead, retreats, past, action_of, row_told, column_of, slots_after, after, report_of, acted}
+use Rattle.rules.specs.Step.{ahead, retreats, action_of, row_told, column_of, slots_after, after, report_of, acted}
 use Rattle.rules.specs.Choosers.{Meaning, mask_of, asked}
 use Rattle.rules.specs.Calls.{row_for, held_after}
 use Rattle.rules.specs.Sound.{Shape, Fit, Sound}

@@ -1,15 +1,15 @@
 -- The foremost ticket is the oldest soft one, if any is soft.
-use Rattle.std.proofs.Common.{◌≡◌, ℕ, suc, ◌-◌, ◌<◌, ◌≤◌, Bool, true, false, cond, not, ◌&&◌, ◌||◌, ltb, leb, List, length, get_or, Some, None, Option, sym, refl, ap, ◌∙◌, subst, arith}
+use Rattle.std.proofs.Common.{◌≡◌, ℕ, ◌-◌, ◌<◌, ◌≤◌, true, cond, ltb, length, Some, sym, refl, ap, ◌∙◌, subst, arith}
 use Rattle.std.proofs.lemmas.Bool.Decides.{nat_tests}
 use Rattle.std.proofs.lemmas.Bool.{lt-ltb, le-ltb}
 use Rattle.lists.specs.Order.{LeadsAt}
 use Rattle.rules.specs.declared.ticket.Ticket.{Ticket}
-use Rattle.rules.specs.Lists.{find, or_else}
+use Rattle.rules.specs.Lists.{find}
 use Rattle.rules.specs.Rack.{Rack, soft, oldest}
 use Rattle.rules.specs.Order.{ticket_before}
 use Rattle.rules.specs.Step.{led}
 use Rattle.rules.specs.Sound.{Sound}
-use Rattle.rules.proofs.Listing.{In, find_in, find_some, some_inj}
+use Rattle.rules.proofs.Listing.{find_in, find_some, some_inj}
 use Rattle.rules.proofs.Tickets.{find_own, first_lowest}
 use Rattle.board.specs.Reading.{no_ticket, ticket_at}
 use Rattle.board.proofs.Places.{at_in, in_at}

@@ -1,17 +1,17 @@
 -- What one look finds: the mask ahead, and whether the ticket is blocked and by whom.
-use Rattle.std.proofs.Common.{◌≡◌, ℕ, ◌+◌, ◌<◌, ◌≤◌, Bool, true, false, cond, not, ◌&&◌, eqb, ltb, leb, List, length, Some, None, Option, sym, refl, ap, ◌∙◌, subst, arith}
+use Rattle.std.proofs.Common.{◌≡◌, ℕ, ◌+◌, ◌<◌, ◌≤◌, Bool, true, false, not, ◌&&◌, ltb, Some, None, Option, sym, refl, ap, ◌∙◌, arith}
 use Rattle.std.proofs.lemmas.Bool.{and_parts, ltb-true, ltb-false, not-true, not-false, eq-eqb, ne_eqb, le-leb, lt-leb, cond-true}
 use Rattle.rules.specs.declared.ticket.Ticket.{Ticket}
-use Rattle.rules.specs.Lists.{find, or_else}
-use Rattle.rules.specs.Rack.{Rack, soft, cells, has_vacant, is_wall, holder}
-use Rattle.rules.specs.Step.{is_forward, ahead, past, blocked, passed_to}
+use Rattle.rules.specs.Lists.{or_else}
+use Rattle.rules.specs.Rack.{Rack, soft, cells, has_vacant, is_wall}
+use Rattle.rules.specs.Step.{is_forward, ahead, past, blocked}
 use Rattle.rules.specs.Choosers.{mask_of}
 use Rattle.rules.specs.Sound.{Sound, marks_in, booked_in}
 use Rattle.rules.proofs.Listing.{some_none}
 use Rattle.rules.proofs.Masks.{mask_zero}
 use Rattle.rules.proofs.Looks.{sees_wall, sees_holder}
 use Rattle.rules.proofs.Walks.{blocked_holder}
-use Rattle.board.specs.Reading.{ticket_at, Placed, looks, mask_seen, Passes}
+use Rattle.board.specs.Reading.{Placed, looks, mask_seen, Passes}
 
 -- the window ahead lies within the board
 pub looks_inside : (r : Rack) (t : Ticket) → looks r t ≡ true → ahead t < r.sizes.columns

@@ -1,10 +1,10 @@
 -- The row that a chooser answers for a mark: it is the one that its meaning names, and a row of the board.
-use Rattle.std.proofs.Common.{◌≡◌, ℕ, ◌<◌, ◌≤◌, Bool, true, false, cond, not, eqb, Some, None, Option, sym, refl, ap, ◌∙◌, subst, arith}
+use Rattle.std.proofs.Common.{◌≡◌, ℕ, ◌<◌, ◌≤◌, true, Some, Option, sym, refl, ap, ◌∙◌, arith}
 use Rattle.std.proofs.lemmas.Bool.{ne_eqb, not-false}
 use Rattle.rules.specs.declared.ticket.Ticket.{Ticket}
 use Rattle.rules.specs.Rack.{Rack, cells, has_vacant}
 use Rattle.rules.specs.Step.{ahead}
-use Rattle.rules.specs.Choosers.{Asked, Meaning, mask_of, asked, vacant_in, Lawful, answer_of, held_by}
+use Rattle.rules.specs.Choosers.{Asked, Meaning, mask_of, asked, Lawful, answer_of, held_by}
 use Rattle.rules.specs.Calls.{row_for}
 use Rattle.rules.specs.Sound.{Sound}
 use Rattle.rules.proofs.Listing.{some_inj}

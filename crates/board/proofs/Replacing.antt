@@ -1,5 +1,5 @@
 -- A ticket replaced at its place is the ticket changed under its number.
-use Rattle.std.proofs.Common.{◌≡◌, ℕ, ◌+◌, ◌<◌, List, [], ◌∷◌, ◌++◌, length, take, drop, set, Some, None, Option, sym, refl, ap, ◌∙◌, subst}
+use Rattle.std.proofs.Common.{◌≡◌, ℕ, ◌+◌, ◌<◌, List, ◌++◌, length, take, drop, set, Some, None, Option, sym, refl, ap, ◌∙◌}
 use Rattle.rules.specs.declared.ticket.Ticket.{Ticket}
 use Rattle.rules.specs.Rack.{Rack, with}
 use Rattle.rules.specs.Sound.{Rising}

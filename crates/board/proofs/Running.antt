@@ -1,5 +1,5 @@
 -- A drive, step by step: what is left after a step gives the whole.
-use Rattle.std.proofs.Common.{◌≡◌, ℕ, suc, ◌+◌, ◌-◌, ◌<◌, min, Bool, true, false, cond, eqb, List, [], ◌∷◌, length, Ok, Err, Result, sym, refl, ap, ◌∙◌, subst, arith}
+use Rattle.std.proofs.Common.{◌≡◌, ℕ, suc, ◌+◌, ◌-◌, ◌<◌, min, true, false, eqb, ◌∷◌, length, Ok, Err, Result, sym, refl, ap, ◌∙◌, arith}
 use Rattle.lists.specs.Contents.{Contents, room_of, full_of, pushed, entered}
 use Rattle.lists.proofs.Contents.{room_if_not_full, pushed_room}
 use Rattle.rules.specs.declared.ticket.Ticket.{Ticket}

@@ -1,15 +1,15 @@
 -- What the rack counts is what the history tallies.
-use Rattle.std.proofs.Common.{◌≡◌, ℕ, suc, ◌+◌, ◌<◌, ◌≤◌, Bool, true, false, not, ◌&&◌, ◌||◌, eqb, ltb, ◌⊎◌, List, [], ◌∷◌, length, sym, refl, ap, ◌∙◌, subst, inl, inr, arith}
+use Rattle.std.proofs.Common.{◌≡◌, ℕ, suc, ◌+◌, ◌<◌, ◌≤◌, Bool, true, false, ◌&&◌, eqb, ltb, List, [], ◌∷◌, length, sym, refl, ap, ◌∙◌, inl, inr, arith}
 use Rattle.std.proofs.lemmas.Bool.Decides.{nat_tests}
 use Rattle.std.proofs.lemmas.Bool.{ne_eqb, eqb-true}
 use Rattle.rules.specs.declared.ticket.Ticket.{Ticket}
 use Rattle.rules.specs.declared.ticket.Phase.{Phase}
 use Rattle.rules.specs.Lists.{unit, any_of, total, count_of}
 use Rattle.rules.specs.Rack.{Rack, seeking, hard, named}
-use Rattle.rules.specs.History.{Event, New, Reaches}
+use Rattle.rules.specs.History.{Event, Reaches}
 use Rattle.rules.specs.Accounts.{withdraws, returns, kinds, numbers, tally}
-use Rattle.rules.specs.Accounts.{is_taken, is_withdrawn, is_denied, is_granted, is_returned, is_standing, is_undecided}
-use Rattle.rules.specs.Laws.{BooksBalance, TicketsMatchHistory, Holds}
+use Rattle.rules.specs.Accounts.{is_taken, is_withdrawn, is_returned, is_standing, is_undecided}
+use Rattle.rules.specs.Laws.{BooksBalance, TicketsMatchHistory}
 use Rattle.rules.specs.Sound.{Rising}
 use Rattle.board.specs.Audit.{is_drop}
 use Rattle.rules.proofs.Listing.{In, total_in, total_le}
@@ -17,7 +17,7 @@ use Rattle.rules.proofs.Cells.{any_count}
 use Rattle.rules.proofs.Effects.{Effect, effect}
 use Rattle.rules.proofs.Changes.{subject}
 use Rattle.rules.proofs.Kept.{sound}
-use Rattle.rules.proofs.Statuses.{Status, kind}
+use Rattle.rules.proofs.Statuses.{kind}
 use Rattle.rules.proofs.Balance.{flags, books_balance, tickets_match_history}
 
 total_none : {X : Type 0} (xs : List X) → total (λ _. 0) xs ≡ 0

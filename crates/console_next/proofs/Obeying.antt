@@ -1,5 +1,5 @@
 -- What a call leaves, and what it tells, as the answer to a line.
-use Rattle.std.proofs.Common.{◌≡◌, ℕ, ◌<◌, ◌≤◌, Bool, true, false, cond, ltb, List, [], length, Ok, Err, Option, Result, sym, refl, ap, ◌∙◌, subst, arith}
+use Rattle.std.proofs.Common.{◌≡◌, ℕ, ◌<◌, ◌≤◌, Bool, true, false, cond, ltb, List, [], length, Ok, Err, Result, sym, refl, ap, ◌∙◌, subst, arith}
 use Rattle.std.proofs.lemmas.Bool.{lt-ltb, le-ltb, cond-true, cond-false}
 use Rattle.lists.specs.Contents.{Contents, room_of, entered}
 use Rattle.rules.specs.declared.refusal.Refusal.{Refusal}
@@ -7,9 +7,9 @@ use Rattle.rules.specs.declared.refusal.Refusal.TheVariants as refusal
 use Rattle.rules.specs.declared.report.Report.{Report}
 use Rattle.rules.specs.Rack.{Sizes, Rack, opened}
 use Rattle.rules.specs.Choosers.{Meaning}
-use Rattle.rules.specs.Calls.{Outcome, Ran, still, openable, open', book, step, drive, collect, drop', back, show}
+use Rattle.rules.specs.Calls.{Outcome, openable, open', book, step, drive, collect, drop', back}
 use Rattle.rules.specs.History.{Event, Reaches}
-use Rattle.rules.specs.Laws.{told, reported, Carries, Holds}
+use Rattle.rules.specs.Laws.{told, reported, Carries}
 use Rattle.rules.proofs.Whole.{laws}
 use Rattle.rules.proofs.Plays.{book_refused, collect_refused, drop_refused, back_refused, step_refused, drive_refused}
 use Rattle.text.specs.declared.fault.Fault.{Fault}
@@ -17,10 +17,9 @@ use Rattle.text.specs.Faults.{fault_of}
 use Rattle.console_next.specs.declared.order.Order.{Order}
 use Rattle.console_next.specs.declared.order.Order.TheVariants as order
 use Rattle.console_next.specs.declared.reply.Reply.{Reply}
-use Rattle.console_next.specs.declared.reply.Reply.TheVariants as reply
 use Rattle.console_next.specs.Orders.{order_of}
 use Rattle.console_next.specs.Calls.{Telling, Continues, Called, replied, opening, called}
-use Rattle.console_next.specs.Answers.{Answered, refused_with, written, obeyed, answered}
+use Rattle.console_next.specs.Answers.{refused_with, written, obeyed, answered}
 
 -- a call that changes nothing and tells nothing
 pub stays : (x : Rack) → Carries [] x x

@@ -9,13 +9,11 @@ use Rattle.rules.specs.Choosers.{Meaning}
 use Rattle.text.specs.declared.fault.Fault.{Fault}
 use Rattle.text.specs.declared.fault.LineFault.{LineFault}
 use Rattle.text.specs.Faults.{fault_of}
-use Rattle.text.specs.Frames.{kept}
-use Rattle.text.specs.Lines.{ends_once, is_line}
 use Rattle.text.specs.Pages.{no_line, over, answered as answered_text, page_with}
 use Rattle.console_next.specs.Calls.{Telling}
 use Rattle.console_next.specs.Orders.{order_of}
-use Rattle.console_next.specs.Answers.{Answered, refused_with, answered}
-use Rattle.console_next.specs.Sessions.{Desk, desk_reading, Handled, settled, line_answered, handled, ALongLineIsNoLine}
+use Rattle.console_next.specs.Answers.{Answered}
+use Rattle.console_next.specs.Sessions.{Desk, desk_reading, settled, line_answered, handled, ALongLineIsNoLine}
 use Rattle.console_next.proofs.Obeying.{misread}
 
 -- a desk by its parts

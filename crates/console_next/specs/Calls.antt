@@ -1,5 +1,5 @@
 -- What an order does: the board's call by its own definition, and what the call tells of histories.
-use Rattle.std.specs.Prelude.{ℕ, List, [], Ok, Err, Result}
+use Rattle.std.specs.Prelude.{List, [], Ok, Err, Result}
 use Rattle.lists.specs.Contents.{Contents, room_of, entered}
 use Rattle.rules.specs.declared.refusal.Refusal.{Refusal}
 use Rattle.rules.specs.declared.report.Report.{Report}

@@ -1,5 +1,5 @@
 -- What pushes and clears make of the entries, the room and the places behind the entries.
-use Rattle.std.proofs.Common.{◌≡◌, ℕ, ◌+◌, ◌<◌, ◌≤◌, true, false, List, [], ◌∷◌, ◌++◌, length, drop, set, is_err, Ok, Err, sym, refl, ap, ◌∙◌, ⊎_elim, append_assoc, zero-add, one-add, arith}
+use Rattle.std.proofs.Common.{◌≡◌, ◌+◌, ◌<◌, ◌≤◌, true, false, List, [], ◌∷◌, ◌++◌, length, drop, set, is_err, Ok, Err, sym, refl, ap, ◌∙◌, ⊎_elim, append_assoc, zero-add, one-add, arith}
 use Rattle.std.proofs.lemmas.List.{append-nil, length-set, take-append-drop, take_more_set, drop-set-lt, drop-drop}
 use Rattle.std.proofs.lemmas.Bool.{cases_Bool, eqb-true}
 use Rattle.std.proofs.lemmas.Bool.Decides.{nat_tests}

@@ -1,12 +1,11 @@
 -- The slots agree with the tickets after every call, whatever vacant rows are taken.
-use Rattle.std.proofs.Common.{◌≡◌, ℕ, zero, suc, ◌+◌, ◌-◌, ◌*◌, ◌<◌, ◌≤◌, Bool, true, false, cond, not, ◌&&◌, eqb, ltb, leb, ◌⊎◌, List, [], ◌∷◌, ◌++◌, length, get_or, set, Some, None, Option, sym, refl, ap, ◌∙◌, subst, inl, inr, arith}
+use Rattle.std.proofs.Common.{◌≡◌, ℕ, ◌+◌, ◌-◌, ◌*◌, ◌<◌, ◌≤◌, Bool, true, false, cond, ◌&&◌, eqb, leb, ◌⊎◌, List, [], ◌∷◌, ◌++◌, length, get_or, set, Some, sym, refl, ap, ◌∙◌, subst, inl, inr, arith}
 use Rattle.std.specs.List.{AllByRecursion as All}
 use Rattle.std.proofs.lemmas.List.{length-set, get_or_default}
 use Rattle.std.proofs.lemmas.Bool.{cases_eq, eq-eqb, ne_eqb, le-leb, lt-ltb, eqb-true, leb-true}
 use Rattle.std.proofs.lemmas.Bool.Decides.{nat_tests}
 use Rattle.rules.specs.declared.slot.Slot.{Slot}
 use Rattle.rules.specs.declared.slot.Slot.TheVariants.{Vacant, Marked}
-use Rattle.rules.specs.declared.ticket.Request.{Request}
 use Rattle.rules.specs.declared.ticket.Ticket.{Ticket}
 use Rattle.rules.specs.declared.ticket.Phase.{Phase}
 use Rattle.rules.specs.declared.ticket.Phase.TheVariants.{Forward, Backing, Without, Granted, Out, Closing}
@@ -14,18 +13,17 @@ use Rattle.rules.specs.declared.report.Action.{Action}
 use Rattle.rules.specs.declared.report.Action.TheVariants as action
 use Rattle.rules.specs.Lists.{unit, total, count_of, find, edit}
 use Rattle.rules.specs.Rack.{Sizes, Rack, soft, named, is_vacant, holds, cells_of, cells, row_of, put, has_vacant}
-use Rattle.rules.specs.Step.{ahead, duty, action_of, retreats, with_phase, with_marks, sets_out, redirect, wiped, after, column_of, row_told, slots_after, acted, worked}
-use Rattle.rules.specs.Calls.{booked, ticket_for, changed, withdrawn, returned}
-use Rattle.rules.specs.History.{Event, Fair}
+use Rattle.rules.specs.Step.{ahead, duty, action_of, retreats, with_phase, with_marks, sets_out, wiped, after, column_of, row_told, slots_after, acted}
+use Rattle.rules.specs.History.{Fair}
 use Rattle.rules.specs.Ledger.{covers}
-use Rattle.rules.proofs.Listing.{In, total_append, total_edit, find_in, all_in}
-use Rattle.rules.proofs.Tickets.{Same, after_same, withdrawn_same}
+use Rattle.rules.proofs.Listing.{In, total_append, total_edit, all_in}
+use Rattle.rules.proofs.Tickets.{Same, after_same}
 use Rattle.rules.proofs.Duties.{Says, says}
-use Rattle.rules.proofs.Cells.{cells_length, cells_here, cells_there, column_inside, count_set, row_held, holds_mark}
+use Rattle.rules.proofs.Cells.{cells_here, cells_there, count_set, row_held, holds_mark}
 use Rattle.rules.proofs.Masks.{vacant_cell}
-use Rattle.rules.specs.Sound.{marked, marks_in, load, marks_of, Shape, Fit, Agree, Sound}
+use Rattle.rules.specs.Sound.{marks_in, load, marks_of, Shape, Fit, Agree, Sound}
 use Rattle.rules.proofs.Looks.{cells_tall, one_named}
-use Rattle.rules.proofs.Walks.{Works, works}
+use Rattle.rules.proofs.Walks.{Works}
 
 pub no_marks : (f c : ℕ) → unit (covers (record { first = f; length = 0 }) c) ≡ 0
 no_marks f c = grind (arith, nat_tests)

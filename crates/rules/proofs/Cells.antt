@@ -1,11 +1,11 @@
 -- The slots of a column: what a change of one slot does to it and to the others, and counting cells.
-use Rattle.std.proofs.Common.{◌≡◌, ℕ, zero, suc, ◌+◌, ◌-◌, ◌*◌, ◌<◌, ◌≤◌, min, Bool, true, false, cond, not, ◌&&◌, ◌||◌, eqb, ltb, leb, ◌⊎◌, List, [], ◌∷◌, length, get_or, take, drop, set, replicate, sym, refl, ap, ◌∙◌, subst, inl, inr, arith}
-use Rattle.std.proofs.lemmas.List.{length-take-le, length-drop, take-set-le, drop-set-lt, drop-set-add, take-replicate, drop-replicate, length-set, take-set}
+use Rattle.std.proofs.Common.{◌≡◌, ℕ, zero, suc, ◌+◌, ◌-◌, ◌*◌, ◌<◌, ◌≤◌, Bool, true, false, cond, ◌&&◌, ◌||◌, eqb, ltb, leb, ◌⊎◌, List, [], ◌∷◌, length, get_or, take, drop, set, replicate, refl, ap, ◌∙◌, inl, inr, arith}
+use Rattle.std.proofs.lemmas.List.{length-take-le, length-drop, take-set-le, drop-set-lt, drop-set-add, take-replicate, drop-replicate}
 use Rattle.std.proofs.lemmas.Bool.{cases_order, ne_eqb}
 use Rattle.std.proofs.lemmas.Bool.Decides.{nat_tests}
 use Rattle.rules.specs.declared.slot.Slot.{Slot}
 use Rattle.rules.specs.declared.slot.Slot.TheVariants.{Vacant, Marked}
-use Rattle.rules.specs.Lists.{unit, any_of, all_of, total, count_of}
+use Rattle.rules.specs.Lists.{unit, any_of, all_of, count_of}
 use Rattle.rules.specs.Rack.{is_vacant, holds, cells_of, row_of, put}
 
 pub mul_mono : (a b c : ℕ) → a ≤ b → a * c ≤ b * c

@@ -1,5 +1,5 @@
 -- What each action says of the ticket that does it.
-use Rattle.std.proofs.Common.{◌≡◌, ℕ, ◌+◌, ◌<◌, ◌≤◌, Bool, true, false, eqb, ltb, leb, ◌⊎◌, refl, inl, inr, arith}
+use Rattle.std.proofs.Common.{◌≡◌, ℕ, ◌+◌, ◌<◌, ◌≤◌, Bool, true, false, ◌⊎◌, refl, inl, inr, arith}
 use Rattle.std.proofs.lemmas.Bool.Decides.{nat_tests}
 use Rattle.rules.specs.declared.ticket.Ticket.{Ticket}
 use Rattle.rules.specs.declared.ticket.Phase.{Phase}
@@ -7,7 +7,7 @@ use Rattle.rules.specs.declared.ticket.Phase.TheVariants.{Forward, Backing, With
 use Rattle.rules.specs.declared.report.Action.{Action}
 use Rattle.rules.specs.declared.report.Action.TheVariants as action
 use Rattle.rules.specs.Rack.{Sizes, soft}
-use Rattle.rules.specs.Step.{is_forward, retreats, duty}
+use Rattle.rules.specs.Step.{retreats, duty}
 
 -- of a soft ticket
 abbrev pub Says : Sizes → ℕ → Bool → Ticket → Action → Type 0

@@ -1,7 +1,6 @@
 -- What an accepted call did: one case for each kind. The other proofs know the calls by these cases alone.
-use Rattle.std.proofs.Common.{◌≡◌, ℕ, suc, ◌+◌, ◌<◌, ◌≤◌, Bool, true, false, cond, not, ◌&&◌, eqb, ltb, leb, ◌⊎◌, List, [], ◌∷◌, ◌++◌, length, Some, None, Ok, Err, Option, Result, sym, refl, ap, ◌∙◌, subst, inl, inr, arith}
-use Rattle.std.proofs.lemmas.Bool.{and_parts, ltb-true, ltb-false, leb-true, leb-false, eqb-true, not-false}
-use Rattle.std.proofs.lemmas.Bool.Decides.{nat_tests}
+use Rattle.std.proofs.Common.{◌≡◌, ℕ, ◌+◌, ◌<◌, ◌≤◌, Bool, true, false, cond, not, ◌&&◌, ltb, leb, List, [], ◌∷◌, length, Some, None, Ok, Err, Option, Result, sym, refl, ap, subst, arith}
+use Rattle.std.proofs.lemmas.Bool.{and_parts, ltb-false, leb-true, leb-false, eqb-true}
 use Rattle.rules.specs.declared.span.Span.{Span}
 use Rattle.rules.specs.declared.ticket.Request.{Request}
 use Rattle.rules.specs.declared.ticket.Ticket.{Ticket}
@@ -9,12 +8,12 @@ use Rattle.rules.specs.declared.ticket.Phase.{Phase}
 use Rattle.rules.specs.declared.ticket.Phase.TheVariants.{Forward, Backing, Without, Granted, Out, Closing}
 use Rattle.rules.specs.declared.refusal.Refusal.{Refusal}
 use Rattle.rules.specs.declared.refusal.Refusal.TheVariants as refusal
-use Rattle.rules.specs.Lists.{find, edit}
-use Rattle.rules.specs.Rack.{Sizes, Rack, named, soft, seeking}
+use Rattle.rules.specs.Lists.{find}
+use Rattle.rules.specs.Rack.{Rack, named, soft, seeking}
 use Rattle.rules.specs.Step.{worked, due_for, due, report_of, acted, with_phase}
-use Rattle.rules.specs.Calls.{Outcome, within, last_number, admission, booked, at_ticket, changed, collect_at, collect, withdrawn, drop_at, drop', returned, back_at, back}
+use Rattle.rules.specs.Calls.{Outcome, within, last_number, admission, booked, at_ticket, changed, collect_at, withdrawn, drop_at, returned, back_at}
 use Rattle.rules.specs.History.{Event, Fair, Accepts}
-use Rattle.rules.proofs.Listing.{In, find_in, some_inj, some_none}
+use Rattle.rules.proofs.Listing.{find_in, some_none}
 
 -- why a booking is taken
 pub record Bookable (x : Rack) (q : Request) : Type 0 where

@@ -1,29 +1,27 @@
 -- Every call keeps the rack sound.
-use Rattle.std.proofs.Common.{◌≡◌, ℕ, suc, ◌+◌, ◌-◌, ◌*◌, ◌<◌, ◌≤◌, Bool, true, false, cond, not, ◌&&◌, eqb, ltb, leb, ◌⊎◌, List, [], ◌∷◌, ◌++◌, length, replicate, Some, sym, refl, ap, ◌∙◌, subst, inl, inr, arith}
+use Rattle.std.proofs.Common.{◌≡◌, ℕ, suc, ◌+◌, ◌-◌, ◌*◌, ◌<◌, ◌≤◌, Bool, true, false, cond, ◌&&◌, eqb, leb, ◌⊎◌, List, [], ◌∷◌, Some, sym, refl, ap, ◌∙◌, subst, inl, inr, arith}
 use Rattle.std.specs.List.{AllByRecursion as All}
 use Rattle.std.proofs.ByRecursion.{All-append, All-weaker}
 use Rattle.std.proofs.lemmas.List.{length_push, length-replicate}
 use Rattle.std.proofs.lemmas.Bool.{and_parts, eqb-true, eqb-false, leb-true, leb-false}
-use Rattle.std.proofs.lemmas.Bool.Decides.{nat_tests}
 use Rattle.rules.specs.declared.slot.Slot.TheVariants.{Vacant}
-use Rattle.rules.specs.declared.ticket.Request.{Request}
 use Rattle.rules.specs.declared.ticket.Ticket.{Ticket}
 use Rattle.rules.specs.declared.ticket.Phase.{Phase}
 use Rattle.rules.specs.declared.ticket.Phase.TheVariants.{Forward, Backing, Without, Granted, Out, Closing}
 use Rattle.rules.specs.declared.report.Action.{Action}
 use Rattle.rules.specs.declared.report.Action.TheVariants as action
 use Rattle.rules.specs.Lists.{unit, total, count_of, find, edit}
-use Rattle.rules.specs.Rack.{Sizes, Rack, opened, soft, seeking, named, is_vacant, holds, cells, has_vacant}
+use Rattle.rules.specs.Rack.{Sizes, Rack, opened, soft, seeking, named, is_vacant, holds, has_vacant}
 use Rattle.rules.specs.Step.{ahead, retreats, duty, action_of, with_phase, with_marks, sets_out, redirect, wiped, after, worked, acted}
-use Rattle.rules.specs.Calls.{within, openable, last_number, booked, ticket_for, changed, withdrawn, returned}
+use Rattle.rules.specs.Calls.{within, openable, booked, ticket_for, changed, withdrawn, returned}
 use Rattle.rules.specs.History.{Event, Reaches, New}
-use Rattle.rules.proofs.Listing.{In, Few, total_append, total_edit, find_in, all_in, all_edit, length_edit}
+use Rattle.rules.proofs.Listing.{Few, total_append, total_edit, find_in, all_in, all_edit, length_edit}
 use Rattle.rules.proofs.Tickets.{Same, after_same, after_few, withdrawn_same, withdrawn_few, rising_edit, rising_push}
 use Rattle.rules.proofs.Duties.{Says, says}
-use Rattle.rules.proofs.Effects.{Bookable, Effect, effect}
+use Rattle.rules.proofs.Effects.{Effect, effect}
 use Rattle.rules.proofs.Cells.{cells_new, all_vacant, none_held}
-use Rattle.rules.specs.Sound.{Rising, marks_in, load, marks_of, Shape, Fit, live, Agree, Sound}
-use Rattle.rules.proofs.Walks.{Works, works}
+use Rattle.rules.specs.Sound.{marks_in, Shape, Fit, live, Agree, Sound}
+use Rattle.rules.proofs.Walks.{works}
 use Rattle.rules.proofs.Agreement.{agree_step, agree_still, keeps_marks, push_marks, no_marks}
 
 -- what an action leaves fits

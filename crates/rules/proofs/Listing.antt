@@ -1,8 +1,8 @@
 -- Lemmas on lists: sums, the first that passes, and what a change of one entry does to them.
-use Rattle.std.proofs.Common.{◌≡◌, ℕ, suc, ◌+◌, ◌<◌, ◌≤◌, Bool, true, false, cond, ◌&&◌, ◌||◌, ◌⊎◌, List, [], ◌∷◌, ◌++◌, length, Some, None, Option, sym, refl, ap, ◌∙◌, subst, inl, inr, arith}
+use Rattle.std.proofs.Common.{◌≡◌, ℕ, suc, ◌+◌, ◌≤◌, Bool, true, false, cond, ◌⊎◌, List, [], ◌∷◌, ◌++◌, length, Some, None, Option, sym, refl, ap, ◌∙◌, subst, inl, inr, arith}
 use Rattle.std.specs.List.{AllByRecursion as All}
 use Rattle.std.proofs.ByRecursion.{All-append}
-use Rattle.rules.specs.Lists.{unit, any_of, all_of, total, count_of, find, edit}
+use Rattle.rules.specs.Lists.{total, find, edit}
 
 -- x is an entry of the list
 abbrev pub In : {X : Type 0} → X → List X → Type 0

@@ -1,17 +1,17 @@
 -- What a column's slots show, in the words of tickets: a vacant slot, a wall, and whose marks are there.
-use Rattle.std.proofs.Common.{◌≡◌, ℕ, suc, ◌+◌, ◌*◌, ◌<◌, ◌≤◌, Bool, true, false, cond, not, ◌&&◌, ◌||◌, eqb, ltb, leb, ◌⊎◌, List, [], ◌∷◌, length, Some, None, Option, sym, refl, ap, ◌∙◌, subst, inl, inr, arith}
-use Rattle.std.proofs.lemmas.Bool.{eqb-true, eqb-false, eq-eqb, ne_eqb}
+use Rattle.std.proofs.Common.{◌≡◌, ℕ, suc, ◌+◌, ◌<◌, ◌≤◌, Bool, true, false, cond, ◌&&◌, ◌||◌, eqb, ltb, leb, List, [], ◌∷◌, length, Some, Option, sym, refl, ap, ◌∙◌, inl, inr, arith}
+use Rattle.std.proofs.lemmas.Bool.{eqb-true, eq-eqb, ne_eqb}
 use Rattle.std.proofs.lemmas.Bool.Decides.{nat_tests}
 use Rattle.std.specs.List.{AllByRecursion as All}
 use Rattle.rules.specs.declared.slot.Slot.{Slot}
 use Rattle.rules.specs.declared.slot.Slot.TheVariants.{Vacant, Marked}
 use Rattle.rules.specs.declared.ticket.Ticket.{Ticket}
-use Rattle.rules.specs.Lists.{unit, any_of, all_of, total, count_of, find}
-use Rattle.rules.specs.Rack.{Sizes, Rack, soft, hard, named, is_vacant, is_booked, holds, cells, has_vacant, is_wall, has_mark, holder}
-use Rattle.rules.proofs.Listing.{In, total_same}
+use Rattle.rules.specs.Lists.{unit, any_of, total, count_of, find}
+use Rattle.rules.specs.Rack.{Rack, soft, hard, named, is_vacant, is_booked, holds, cells, has_vacant, is_wall, has_mark, holder}
+use Rattle.rules.proofs.Listing.{In}
 use Rattle.rules.proofs.Tickets.{rising_low}
 use Rattle.rules.proofs.Cells.{any_count, all_count, cells_length, column_inside}
-use Rattle.rules.specs.Sound.{Rising, marks_in, load, booked_in, marks_of, Agree, Sound}
+use Rattle.rules.specs.Sound.{Rising, marks_in, load, booked_in, Sound}
 
 pub cells_tall : (x : Rack) → Sound x → (c : ℕ) → c < x.sizes.columns → length (cells x c) ≡ x.sizes.rows
 cells_tall x s c h =

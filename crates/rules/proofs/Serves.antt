@@ -1,7 +1,7 @@
 -- A step that names a soft ticket is always served, and changes one ticket; and nothing wraps.
-use Rattle.std.proofs.Common.{◌≡◌, ℕ, suc, ◌+◌, ◌-◌, ◌<◌, ◌≤◌, Bool, true, false, cond, eqb, ltb, leb, ◌⊎◌, List, [], ◌∷◌, length, Some, None, Ok, Option, sym, refl, ap, ◌∙◌, subst, inl, inr, arith}
+use Rattle.std.proofs.Common.{◌≡◌, ℕ, ◌+◌, ◌-◌, ◌≤◌, Bool, true, false, cond, eqb, leb, List, [], ◌∷◌, Some, sym, refl, ap, ◌∙◌, arith}
 use Rattle.std.specs.List.{AllByRecursion as All}
-use Rattle.std.proofs.lemmas.Bool.{eq-eqb, eqb-true, eqb-false}
+use Rattle.std.proofs.lemmas.Bool.{eq-eqb, eqb-true}
 use Rattle.rules.specs.declared.ticket.Ticket.{Ticket}
 use Rattle.rules.specs.declared.ticket.Phase.{Phase}
 use Rattle.rules.specs.declared.ticket.Phase.TheVariants.{Forward, Backing, Without, Granted, Out, Closing}
@@ -9,7 +9,7 @@ use Rattle.rules.specs.declared.report.Action.{Action}
 use Rattle.rules.specs.declared.report.Action.TheVariants as action
 use Rattle.rules.specs.Lists.{find, edit}
 use Rattle.rules.specs.Rack.{Sizes, Rack, soft, named, cells, has_vacant}
-use Rattle.rules.specs.Step.{ahead, retreats, duty, action_of, with_phase, with_marks, sets_out, redirect, wiped, after, worked, due_for, due, acted}
+use Rattle.rules.specs.Step.{ahead, retreats, action_of, with_phase, with_marks, sets_out, wiped, after, worked}
 use Rattle.rules.specs.History.{Event, Fair, Reaches}
 use Rattle.rules.specs.Laws.{Served, AStepIsAlwaysServed, NothingWraps}
 use Rattle.rules.proofs.Listing.{Few, all_in, some_none, some_inj}
@@ -19,7 +19,7 @@ use Rattle.rules.proofs.Effects.{found_own}
 use Rattle.rules.proofs.Masks.{some_vacant}
 use Rattle.rules.specs.Sound.{Shape, Fit, Sound}
 use Rattle.rules.proofs.Looks.{cells_tall}
-use Rattle.rules.proofs.Walks.{Works, works, met_once}
+use Rattle.rules.proofs.Walks.{works, met_once}
 use Rattle.rules.proofs.Kept.{sound}
 
 -- another phase, other marks, another first column or another count seen make another ticket

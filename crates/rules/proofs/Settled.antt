@@ -1,5 +1,5 @@
 -- That a rack is sound can be shown in one way only, so a board can carry it as a hidden fact and have it back.
-use Rattle.std.proofs.Common.{◌≡◌, ℕ, suc, ◌+◌, ◌<◌, ◌≤◌, ◌⊎◌, List, [], ◌∷◌, refl, ap, inl, inr, arith}
+use Rattle.std.proofs.Common.{ℕ, suc, ◌≤◌, ◌⊎◌, List, [], ◌∷◌, refl, ap, inl, inr, arith}
 use mathlib.Core.Bool.{Bool-set}
 use mathlib.Core.Logic.{∥∥₁_elim}
 use mathlib.Core.HLevel.{Π_prop, ×_prop}
@@ -10,7 +10,6 @@ use Rattle.rules.specs.declared.ticket.Ticket.{Ticket}
 use Rattle.rules.specs.declared.ticket.Phase.{Phase}
 use Rattle.rules.specs.declared.ticket.Phase.TheVariants.{Forward, Backing, Without, Granted, Out, Closing}
 use Rattle.rules.specs.Rack.{Sizes, Rack}
-use Rattle.rules.specs.History.{Event, Reaches}
 use Rattle.rules.specs.Sound.{Rising, Shape, Fit, Agree, Sound, Reached}
 use Rattle.rules.proofs.Kept.{sound}
 

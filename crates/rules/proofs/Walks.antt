@@ -1,7 +1,6 @@
 -- Which ticket a step works on: rule 2 always ends at a ticket that is not blocked, and comes by none twice.
-use Rattle.std.proofs.Common.{◌≡◌, ℕ, zero, suc, ◌+◌, ◌-◌, ◌<◌, ◌≤◌, Bool, true, false, cond, not, ◌&&◌, eqb, ltb, leb, ◌⊎◌, List, [], ◌∷◌, Some, None, Option, sym, refl, ap, ◌∙◌, subst, inl, inr, arith}
-use Rattle.std.proofs.lemmas.Bool.{eqb-true, eqb-false, leb-true, leb-false, ltb-true, ltb-false, lt-ltb, le-ltb, lt-leb, le-leb, and_parts, and_from, not-true, cases_lt}
-use Rattle.std.proofs.lemmas.Bool.Decides.{nat_tests}
+use Rattle.std.proofs.Common.{◌≡◌, ℕ, zero, suc, ◌+◌, ◌-◌, ◌<◌, ◌≤◌, Bool, true, false, cond, not, ◌&&◌, ltb, leb, ◌⊎◌, List, [], ◌∷◌, Some, None, Option, sym, refl, ap, ◌∙◌, subst, inl, inr, arith}
+use Rattle.std.proofs.lemmas.Bool.{eqb-true, leb-true, leb-false, ltb-true, ltb-false, lt-ltb, le-ltb, and_parts, and_from, not-true, cases_lt}
 use Rattle.std.specs.List.{AllByRecursion as All}
 use Rattle.rules.specs.declared.ticket.Ticket.{Ticket}
 use Rattle.rules.specs.declared.ticket.Phase.{Phase}
@@ -11,7 +10,7 @@ use Rattle.rules.specs.Rack.{Sizes, Rack, soft, hard, named, has_vacant, is_wall
 use Rattle.rules.specs.Step.{led, is_forward, ahead, past, blocked, passed_to, walk, last_of, met, worked}
 use Rattle.rules.proofs.Listing.{In, find_in, find_some, all_in, some_none, some_inj}
 use Rattle.rules.proofs.Tickets.{find_own, first_lowest}
-use Rattle.rules.specs.Sound.{Rising, marks_in, load, booked_in, Shape, Fit, Sound}
+use Rattle.rules.specs.Sound.{marks_in, load, booked_in, Shape, Fit, Sound}
 use Rattle.rules.proofs.Looks.{sees_vacant, sees_wall, sees_mark}
 
 -- the ticket that a step works on stands on the board, is soft, and is not blocked

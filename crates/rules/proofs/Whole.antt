@@ -1,8 +1,5 @@
 -- All laws together, and every list of calls.
-use Rattle.std.proofs.Common.{List}
-use Rattle.rules.specs.Rack.{Rack}
-use Rattle.rules.specs.History.{Event, Reaches}
-use Rattle.rules.specs.Laws.{Holds, LawsHold}
+use Rattle.rules.specs.Laws.{LawsHold}
 use Rattle.rules.specs.Play.{EveryListOfCallsHolds}
 use Rattle.rules.proofs.Balance.{books_balance, tickets_match_history, no_grant_goes_back_twice}
 use Rattle.rules.proofs.Windows.{windows}

@@ -1,7 +1,6 @@
 -- The accounts of a history: what has become of each booking, told from the events alone.
-use Rattle.std.specs.Prelude.{◌≡◌, ℕ, suc, ◌+◌, ◌-◌, ◌<◌, ◌≤◌, Bool, true, false, cond, not, ◌&&◌, ◌||◌, List, [], ◌∷◌, ◌==◌}
+use Rattle.std.specs.Prelude.{ℕ, suc, ◌+◌, Bool, false, cond, not, ◌&&◌, ◌||◌, List, [], ◌∷◌, ◌==◌}
 use Rattle.rules.specs.declared.span.Span.{Span}
-use Rattle.rules.specs.declared.report.Report.{Report}
 use Rattle.rules.specs.Words.{is_grant, is_without, is_mark}
 use Rattle.rules.specs.Lists.{unit, any_of, count_of}
 use Rattle.rules.specs.History.{Event}

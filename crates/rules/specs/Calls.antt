@@ -1,6 +1,5 @@
 -- Each call as one definition of its whole outcome, refusals among its cases in the order in which they are tried.
-use Rattle.std.specs.Prelude.{ℕ, zero, suc, ◌+◌, ◌-◌, ◌*◌, min, Bool, true, false, cond, not, ◌&&◌, List, [], ◌∷◌, ◌++◌, length, Some, None, Ok, Err, Option, Result, ◌==◌, nat_le, nat_lt}
-use Rattle.rules.specs.declared.slot.Slot.{Slot}
+use Rattle.std.specs.Prelude.{ℕ, zero, suc, ◌+◌, min, Bool, cond, not, ◌&&◌, List, [], ◌∷◌, ◌++◌, length, Some, None, Ok, Err, Option, Result, ◌==◌, nat_le, nat_lt}
 use Rattle.rules.specs.declared.span.Span.{Span}
 use Rattle.rules.specs.declared.ticket.Request.{Request}
 use Rattle.rules.specs.declared.ticket.Ticket.{Ticket}
@@ -13,9 +12,9 @@ use Rattle.rules.specs.declared.refusal.Refusal.{Refusal}
 use Rattle.rules.specs.declared.refusal.Refusal.TheVariants as refusal
 use Rattle.rules.specs.Words.{stage_of, is_mark}
 use Rattle.rules.specs.Lists.{find, edit, count_of}
-use Rattle.rules.specs.Rack.{Sizes, Rack, opened, soft, named, is_vacant, cells, row_of, with}
+use Rattle.rules.specs.Rack.{Sizes, Rack, opened, named, is_vacant, cells, row_of, with}
 use Rattle.rules.specs.Step.{due, action_of, report_of, acted, with_phase}
-use Rattle.rules.specs.Choosers.{Asked, Meaning, asked}
+use Rattle.rules.specs.Choosers.{Meaning, asked}
 
 -- what a call answers, and the rack that it leaves
 pub record Outcome (A : Type 0) : Type 0 where

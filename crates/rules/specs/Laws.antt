@@ -1,5 +1,5 @@
 -- What holds of every history that calls on a new rack can have, and of the rack that it leads to.
-use Rattle.std.specs.Prelude.{◌≡◌, ℕ, suc, ◌+◌, ◌-◌, ◌*◌, ◌<◌, ◌≤◌, Bool, true, false, ◌&&◌, List, [], ◌∷◌, ◌++◌, map, reverse, length, Some, None, Ok, Err, Option, Result, ◌≢◌, nat_eq, slice_index_or}
+use Rattle.std.specs.Prelude.{◌≡◌, ℕ, suc, ◌+◌, ◌-◌, ◌*◌, ◌<◌, ◌≤◌, Bool, true, false, ◌&&◌, List, [], ◌∷◌, ◌++◌, map, reverse, length, Some, None, Ok, Err, Result, ◌≢◌, nat_eq, slice_index_or}
 use Rattle.rules.specs.declared.refusal.Refusal.{Refusal}
 use Rattle.rules.specs.declared.slot.Slot.TheVariants.{Vacant}
 use Rattle.rules.specs.declared.ticket.Ticket.{Ticket}
@@ -11,7 +11,7 @@ use Rattle.rules.specs.Rack.{Sizes, Rack, seeking, soft, hard, named, is_booked,
 use Rattle.rules.specs.Step.{blocked, met, worked, due, acted}
 use Rattle.rules.specs.Calls.{last_number}
 use Rattle.rules.specs.History.{Event, Fair, Reaches}
-use Rattle.rules.specs.Ledger.{ledger, request_of, Answers, given}
+use Rattle.rules.specs.Ledger.{ledger, request_of, Answers}
 use Rattle.rules.specs.Accounts.{returns, is_taken, is_undecided, is_withdrawn, is_denied, is_standing, is_returned, kinds, numbers, tally, in_window, waited}
 
 -- each number taken was taken once and is of exactly one kind, and a number never taken is of none; so the counts add up

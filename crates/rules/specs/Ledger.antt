@@ -1,5 +1,5 @@
 -- The ledger: bookings entered one at a time, and the window that it gives the next one.
-use Rattle.std.specs.Prelude.{◌≡◌, ℕ, zero, suc, ◌+◌, ◌-◌, ◌<◌, ◌≤◌, Bool, true, false, cond, ◌&&◌, List, [], ◌∷◌, Some, None, Option, ◌==◌, nat_le, nat_lt}
+use Rattle.std.specs.Prelude.{◌≡◌, ℕ, zero, suc, ◌+◌, ◌-◌, ◌<◌, ◌≤◌, Bool, true, cond, ◌&&◌, List, [], ◌∷◌, Some, None, Option, ◌==◌, nat_le, nat_lt}
 use Rattle.rules.specs.declared.span.Span.{Span}
 use Rattle.rules.specs.declared.ticket.Request.{Request}
 use Rattle.rules.specs.declared.report.Action.{Action}

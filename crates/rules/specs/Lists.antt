@@ -1,5 +1,5 @@
 -- Words on lists: some or every entry passes a test, how many do, the first that does, and a change of that one.
-use Rattle.std.specs.Prelude.{ℕ, suc, ◌+◌, Bool, true, false, cond, ◌&&◌, ◌||◌, List, [], ◌∷◌, ◌++◌, Some, None, Option}
+use Rattle.std.specs.Prelude.{ℕ, ◌+◌, Bool, true, false, cond, ◌&&◌, ◌||◌, List, [], ◌∷◌, ◌++◌, Some, None, Option}
 
 -- 1 for true, 0 for false
 abbrev pub unit : Bool → ℕ

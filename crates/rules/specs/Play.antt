@@ -1,14 +1,13 @@
 -- Lists of calls, each with a chooser of its own: what they tell, and the rack that they leave.
-use Rattle.std.specs.Prelude.{◌≡◌, ℕ, ◌≤◌, Bool, true, false, ◌⊎◌, List, [], ◌∷◌, ◌++◌, map, reverse, length, Ok, Err, Result, ◌≢◌}
+use Rattle.std.specs.Prelude.{◌≡◌, ℕ, ◌≤◌, ◌⊎◌, List, [], ◌∷◌, ◌++◌, length, Ok, Err, Result, ◌≢◌}
 use Rattle.std.specs.List.{AllByRecursion as All}
 use Rattle.rules.specs.declared.ticket.Request.{Request}
 use Rattle.rules.specs.declared.ticket.Stage.{Stage}
 use Rattle.rules.specs.declared.ticket.Stage.TheVariants as stage
-use Rattle.rules.specs.declared.report.Report.{Report}
 use Rattle.rules.specs.declared.refusal.Refusal.{Refusal}
 use Rattle.rules.specs.Rack.{Rack}
 use Rattle.rules.specs.Choosers.{Asked, Meaning, Lawful}
-use Rattle.rules.specs.Calls.{Outcome, Ran, Moved, book, step, drive, collect, drop', back}
+use Rattle.rules.specs.Calls.{Outcome, Moved, book, step, drive, collect, drop', back}
 use Rattle.rules.specs.History.{Event, New, Reaches}
 use Rattle.rules.specs.Laws.{reported, Holds}
 

@@ -1,5 +1,5 @@
 -- One step: which ticket it works on (rules 1 and 2), and what that ticket does (rule 3).
-use Rattle.std.specs.Prelude.{ℕ, zero, suc, ◌+◌, ◌-◌, ◌*◌, Bool, true, false, cond, not, ◌&&◌, ◌||◌, List, [], ◌∷◌, Some, None, Ok, Err, Option, Result, ◌==◌, nat_le, nat_lt}
+use Rattle.std.specs.Prelude.{ℕ, zero, suc, ◌+◌, ◌-◌, Bool, true, false, cond, not, ◌&&◌, ◌||◌, List, [], ◌∷◌, Some, None, Ok, Err, Option, Result, ◌==◌, nat_le, nat_lt}
 use Rattle.rules.specs.declared.slot.Slot.{Slot}
 use Rattle.rules.specs.declared.slot.Slot.TheVariants.{Vacant, Marked}
 use Rattle.rules.specs.declared.ticket.Ticket.{Ticket}

@@ -1,5 +1,5 @@
 -- The texts that are written, and a page that they are written on.
-use Rattle.std.specs.Prelude.{◌≡◌, ℕ, ◌+◌, ◌<◌, ◌≤◌, cond, List, [], ◌∷◌, ◌++◌, map, length, take, drop, Ok, Err, codes, decimal, Result, ◌==◌, nat_lt}
+use Rattle.std.specs.Prelude.{◌≡◌, ℕ, ◌+◌, ◌<◌, ◌≤◌, cond, List, [], ◌∷◌, ◌++◌, length, take, drop, Ok, Err, codes, decimal, Result, ◌==◌, nat_lt}
 use Rattle.rules.specs.Words.{refusal_number}
 use Rattle.rules.specs.declared.refusal.Refusal.TheVariants as refusal
 use Rattle.text.specs.declared.fault.Fault.{Fault}

@@ -1,4 +1,4 @@
-use Rattle.std.proofs.Common.{◌≡◌, is_ok, sym, refl, ap, ◌∙◌}
+use Rattle.std.proofs.Common.{is_ok, refl, ap, ◌∙◌}
 use mir.Val.{bool_byte}
 use Rattle.lists.specs.Contents.{room_of}
 use Rattle.lists.specs.Reading.{contents_of}

@@ -1,4 +1,4 @@
-use Rattle.std.proofs.Common.{not, arith}
+use Rattle.std.proofs.Common.{not}
 use Rattle.rules.specs.Rack.{is_vacant}
 use Rattle.board.proofs.Columns.{count_more, count_all}
 use Rattle.board.proofs.calls.marks_among.Goals as goal

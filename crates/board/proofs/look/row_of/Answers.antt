@@ -1,4 +1,4 @@
-use Rattle.std.proofs.Common.{sym, ◌∙◌, arith}
+use Rattle.std.proofs.Common.{sym, ◌∙◌}
 use Rattle.rules.specs.Rack.{row_of}
 use Rattle.board.proofs.Columns.{row_hit, row_miss, row_end, row_start}
 use Rattle.board.proofs.look.row_of.Goals as goal

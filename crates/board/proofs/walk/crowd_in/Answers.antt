@@ -1,6 +1,6 @@
-use Rattle.std.proofs.Common.{◌≡◌, ◌&&◌, refl, arith}
+use Rattle.std.proofs.Common.{◌&&◌, refl, arith}
 use Rattle.rules.specs.Rack.{soft}
-use Rattle.rules.specs.Sound.{marks_in, booked_in}
+use Rattle.rules.specs.Sound.{marks_in}
 use Rattle.board.proofs.Crowds.{upto_more, upto_all, booked_more, booked_all}
 use Rattle.board.proofs.walk.crowd_in.Goals as goal
 

@@ -1,7 +1,6 @@
 use Rattle.std.proofs.Common.{◌≡◌, Bool, true, false, leb, length, Some, refl}
 use Rattle.console.specs.Lines.{Unaffected, line_fault}
 use Rattle.console.specs.Frames.{kept}
-use Rattle.console.proofs.line.read_line.Goals as goal
 
 unaffected : Unaffected
 unaffected bytes = by (leb (length bytes) 80) refl

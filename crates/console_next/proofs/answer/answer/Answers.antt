@@ -1,14 +1,13 @@
-use Rattle.std.proofs.Common.{◌≡◌, [], length, Ok, Err, sym, refl, ap, ◌∙◌, subst, zero-add}
+use Rattle.std.proofs.Common.{[], length, Ok, Err, sym, refl, ap, ◌∙◌, subst, zero-add}
 use Rattle.std.proofs.lemmas.Result.{err_from_is_err_and, IfOk-from_err}
 use Rattle.lists.specs.Reading.{contents_of}
 use Rattle.rules.specs.Rack.{Rack}
 use Rattle.rules.specs.Laws.{Carries}
 use Rattle.board.specs.Face.{rack_in}
-use Rattle.text.specs.Faults.{fault_of}
 use Rattle.text.proofs.Paging.{puts_page}
-use Rattle.console_next.specs.Calls.{called, Continues}
+use Rattle.console_next.specs.Calls.{Continues}
 use Rattle.console_next.specs.Replies.{reply_text}
-use Rattle.console_next.specs.Answers.{Answered, answered}
+use Rattle.console_next.specs.Answers.{Answered}
 use Rattle.console_next.proofs.Replying.{puts_fit}
 use Rattle.console_next.proofs.Obeying.{stays, too_short, misread, denied, granted, refused_order}
 use Rattle.console_next.proofs.answer.answer.Goals as goal

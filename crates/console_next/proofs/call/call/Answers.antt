@@ -1,4 +1,4 @@
-use Rattle.std.proofs.Common.{◌≡◌, sym, ◌∙◌, subst}
+use Rattle.std.proofs.Common.{sym, ◌∙◌, subst}
 use Rattle.lists.specs.Reading.{contents_of}
 use Rattle.rules.specs.Rack.{Sizes}
 use Rattle.board.specs.Face.{rack_in}

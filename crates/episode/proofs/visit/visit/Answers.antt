@@ -7,7 +7,7 @@ use Rattle.handles.specs.declared.slip.Refused.TheVariants as refused
 use Rattle.handles.specs.Holding.{grant_for}
 use Rattle.rules.specs.Calls.{book, collect, stage_at}
 use Rattle.board.specs.Face.{rack_in}
-use Rattle.episode.specs.Visits.{Leads, visit_after}
+use Rattle.episode.specs.Visits.{visit_after}
 use Rattle.episode.proofs.Visiting.{leads_on, slip_next, slip_refused, slip_taken, grant_same, plain_grant, visit_is, back_served, closing_after, refused_none, nothing_none}
 use Rattle.episode.proofs.visit.visit.Goals as goal
 

@@ -1,5 +1,4 @@
-use Rattle.std.proofs.Common.{ℕ, List, length, sym, ap, ◌∙◌, subst, arith, rules}
-use Rattle.text.specs.Fields.{line_of}
+use Rattle.std.proofs.Common.{length, ap, subst, arith}
 use Rattle.text.specs.Pages.{Puts}
 use Rattle.text.proofs.Paging.{blank, line_room, line_again, line_end_room, line_done}
 use Rattle.text.proofs.page.put_line.Goals as goal

@@ -1,6 +1,4 @@
-use Rattle.std.proofs.Common.{[], ◌∷◌}
 use Rattle.rules.specs.History.{Event}
-use Rattle.rules.specs.Laws.{told}
 use Rattle.rules.proofs.Settled.{reached_sound}
 use Rattle.rules.proofs.Carried.{back_carries}
 use Rattle.board.specs.Reading.{rack_of}

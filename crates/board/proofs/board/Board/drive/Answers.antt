@@ -1,17 +1,14 @@
-use Rattle.std.proofs.Common.{◌≡◌, ℕ, true, false, eqb, List, Ok, Err, Result, sym, refl, ap, ◌∙◌, subst}
+use Rattle.std.proofs.Common.{ℕ, Ok, Err, Result, sym, refl, ap, ◌∙◌, subst}
 use Rattle.std.proofs.lemmas.Result.{err_from_is_err_and}
 use Rattle.lists.specs.Contents.{room_of, entered}
 use Rattle.lists.specs.Reading.{contents_of}
-use Rattle.rules.specs.declared.report.Report.{Report}
 use Rattle.rules.specs.declared.refusal.Refusal.{Refusal}
 use Rattle.rules.specs.declared.ticket.Stage.{Stage}
 use Rattle.rules.specs.Rack.{Rack}
-use Rattle.rules.specs.Step.{worked}
-use Rattle.rules.specs.Calls.{Moved, Ran, drive, stage_at}
+use Rattle.rules.specs.Calls.{drive, stage_at}
 use Rattle.rules.specs.Laws.{reported, Carries}
 use Rattle.rules.proofs.Carried.{drive_carries}
 use Rattle.rules.proofs.Plays.{drive_counts, drive_ends}
-use Rattle.board.specs.Reading.{rack_of, ticket_at}
 use Rattle.board.specs.Face.{rack_in}
 use Rattle.board.proofs.Running.{drive_none, drive_full, drive_runs}
 use Rattle.board.proofs.board.Board.drive.Goals as goal

@@ -1,5 +1,4 @@
 use Rattle.std.proofs.Common.{[]}
-use Rattle.board.specs.Reading.{rack_of}
 use Rattle.board.proofs.Promising.{made_rack, new_reaches}
 use Rattle.board.proofs.board.Board.new.Goals as goal
 

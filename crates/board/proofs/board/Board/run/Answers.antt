@@ -1,4 +1,4 @@
-use Rattle.std.proofs.Common.{◌≡◌, sym, ◌∙◌}
+use Rattle.std.proofs.Common.{◌∙◌}
 use Rattle.lists.specs.Reading.{contents_of}
 use Rattle.board.specs.Face.{rack_in}
 use Rattle.board.proofs.Running.{halted, went}

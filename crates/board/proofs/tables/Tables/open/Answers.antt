@@ -1,4 +1,4 @@
-use Rattle.std.proofs.Common.{◌≡◌, ◌*◌, ◌≤◌, true, is_ok, vec_items, sym, ◌∙◌, arith}
+use Rattle.std.proofs.Common.{◌≡◌, ◌*◌, true, vec_items, sym, ◌∙◌, arith}
 use Rattle.rules.specs.Rack.{Sizes}
 use Rattle.rules.specs.Calls.{openable}
 use Rattle.board.specs.Reading.{rack_of}

@@ -1,6 +1,4 @@
-use Rattle.std.proofs.Common.{◌≡◌, sym, ◌∙◌}
 use Rattle.board.specs.Reading.{rack_of}
-use Rattle.rules.specs.Calls.{row_for}
 use Rattle.board.proofs.Picking.{picked_row, picked_held, picked_within}
 use Rattle.board.proofs.tables.Tables.pick.Goals as goal
 

@@ -1,4 +1,4 @@
-use Rattle.std.proofs.Common.{◌≡◌, ◌<◌, length, sym, refl, ap, ◌∙◌, subst, arith}
+use Rattle.std.proofs.Common.{◌<◌, length, sym, ap, ◌∙◌, arith}
 use Rattle.board.specs.Reading.{rack_of}
 use Rattle.rules.specs.Rack.{row_of}
 use Rattle.board.proofs.Deeds.{fit_at, wipe_marks, wipe_row, mark_inside, mark_mask, mark_told, mark_held, mark_writes, wipe_told, wipe_held, wipe_writes}

@@ -1,5 +1,4 @@
-use Rattle.std.proofs.Common.{◌≡◌, ℕ, suc, ◌+◌, ◌-◌, ◌<◌, length, sym, refl, ap, ◌∙◌, subst, arith}
-use Rattle.rules.specs.declared.ticket.Ticket.{Ticket}
+use Rattle.std.proofs.Common.{◌≡◌, ℕ, suc, ◌+◌, ◌-◌, ap, ◌∙◌, subst, arith}
 use Rattle.board.specs.Reading.{rack_of, ticket_at, walk_end, mask_seen}
 use Rattle.board.proofs.Walking.{walk_ends, walk_goes}
 use Rattle.board.proofs.tables.Tables.walk.Goals as goal

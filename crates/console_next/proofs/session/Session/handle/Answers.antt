@@ -1,11 +1,10 @@
-use Rattle.std.proofs.Common.{◌≡◌, ◌≤◌, true, length, is_ok, Ok, Err, sym, refl, ap, ◌∙◌, subst, arith}
+use Rattle.std.proofs.Common.{◌≤◌, length, is_ok, Ok, Err, sym, refl, ap, ◌∙◌, subst, arith}
 use Rattle.std.specs.Option.{option_map}
 use Rattle.std.proofs.lemmas.Result.{err_from_is_err_and, IfOk-from_err, IfOk-weaker}
 use Rattle.lists.specs.Contents.{pushed}
 use Rattle.lists.specs.Reading.{contents_of}
 use Rattle.board.specs.Face.{rack_in}
 use Rattle.text.specs.Pages.{no_line, over}
-use Rattle.text.specs.declared.fault.LineFault.{LineFault}
 use Rattle.console_next.specs.Calls.{Continues}
 use Rattle.console_next.specs.Answers.{Answered}
 use Rattle.console_next.specs.Sessions.{counted, desk_of, Handled, line_answered}
