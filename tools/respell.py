@@ -17,6 +17,9 @@ SIGNATURE = re.compile(
 ALIAS = re.compile(r"[\w'] as ([a-z]+[A-Z]\w*)")
 WORD = re.compile(r"(?<![\w'\-′])([^\W\d](?:[\w'′]|-(?=\w))*)(?![\w'′])")
 
+# The library's other name for a fact of each element of a list, in the files that import it under this one.
+BY_RECURSION = re.compile(r"\bAllByRecursion as All\b")
+
 # Names that would fall together with another one, each with the name that it gets.
 SET_APART = {
     "all_plain": "all_plain_lem",
@@ -89,18 +92,26 @@ def snake(name):
     return name.replace("-", "_").lower()
 
 
+def joined(name):
+    first, *rest = name.split("_")
+    return first + "".join(word.capitalize() for word in rest)
+
+
 def camel(name):
     return "".join(part[:1].upper() + part[1:] for part in re.split(r"[-_]", name))
 
 
 def table():
     out = {}
-    for name, kinds in own_names().items():
+    own = own_names()
+    # Of two names that would fall together, one is set apart, where both are still there.
+    apart = {old: new for old, new in SET_APART.items() if "-" in old or joined(old) in own}
+    for name, kinds in own.items():
         plain = not re.search(r"[a-z0-9'][A-Z]|-", name)
-        if name not in SET_APART and (plain or name[:1].isupper() and "-" not in name):
+        if name not in apart and (plain or name[:1].isupper() and "-" not in name):
             continue
         typed = kinds == {True} or name[:1].isupper()
-        out[name] = SET_APART.get(name) or (camel(name) if typed else snake(name))
+        out[name] = apart.get(name) or (camel(name) if typed else snake(name))
     return out
 
 
@@ -123,6 +134,8 @@ def main():
     for path in [*texts((".antt", ".rt", ".edit")), *pages]:
         old = read(path)
         new = turned_page(old, names) if path.endswith(".md") else turned(old, names)
+        if BY_RECURSION.search(new):
+            new = re.sub(r"(?<![\w'.-])All(?![\w'-])", "AllByRecursion", BY_RECURSION.sub("AllByRecursion", new))
         if new != old:
             with open(path, "w", encoding="utf-8") as f:
                 f.write(new)

@@ -1,6 +1,6 @@
 -- The slots agree with the tickets after every call, whatever vacant rows are taken.
 use Rattle.std.proofs.Common.{◌≡◌, ℕ, ◌+◌, ◌-◌, ◌*◌, ◌<◌, ◌≤◌, Bool, true, false, cond, ◌&&◌, eqb, leb, ◌⊎◌, List, [], ◌∷◌, ◌++◌, length, get_or, set, Some, sym, refl, ap, ◌∙◌, subst, inl, inr, arith}
-use Rattle.std.specs.List.{AllByRecursion as All}
+use Rattle.std.specs.List.{AllByRecursion}
 use Rattle.std.proofs.lemmas.List.{length-set, get_or_default}
 use Rattle.std.proofs.lemmas.Bool.{cases_eq, eq-eqb, ne_eqb, le-leb, lt-ltb, eqb-true, leb-true}
 use Rattle.std.proofs.lemmas.Bool.Decides.{nat_tests}
@@ -110,7 +110,7 @@ mine_one m c t u e = rw e (at (eqb t.number m) (marks_in c u))
     at true b = refl
     at false b = refl
 
-mine_all : (m c : ℕ) (t : Ticket) (us : List Ticket) → All (Same t) us → marks_of m c us ≡ cond (eqb t.number m) (total (one c) us) 0
+mine_all : (m c : ℕ) (t : Ticket) (us : List Ticket) → AllByRecursion (Same t) us → marks_of m c us ≡ cond (eqb t.number m) (total (one c) us) 0
 mine_all m c t [] a = at (eqb t.number m)
   where
     at : (b : Bool) → ◌≡◌ {A = ℕ} 0 (cond b 0 0)
@@ -124,7 +124,7 @@ mine_all m c t (u ∷ us) a = at (eqb t.number m) (mine_one m c t u a.0.0) (mine
     at false p q = omega arith
 
 -- what a change of one ticket does to a column: of all tickets, and of those with number m
-pub edit_marks : (c m less more : ℕ) (f : Ticket → List Ticket) (ts : List Ticket) (t : Ticket) → find (named t.number) ts ≡ Some t → All (Same t) (f t)
+pub edit_marks : (c m less more : ℕ) (f : Ticket → List Ticket) (ts : List Ticket) (t : Ticket) → find (named t.number) ts ≡ Some t → AllByRecursion (Same t) (f t)
     → total (one c) (f t) + less ≡ one c t + more
     → (load c (edit (named t.number) f ts) + less ≡ load c ts + more)
     × (marks_of m c (edit (named t.number) f ts) + cond (eqb t.number m) less 0 ≡ marks_of m c ts + cond (eqb t.number m) more 0)
@@ -312,7 +312,7 @@ agree_still x y a z s l m =
     }
 
 -- a change of one ticket that keeps its marks
-pub keeps_marks : (ts : List Ticket) (t : Ticket) (f : Ticket → List Ticket) → find (named t.number) ts ≡ Some t → All (Same t) (f t) → ((c : ℕ) → total (one c) (f t) ≡ one c t)
+pub keeps_marks : (ts : List Ticket) (t : Ticket) (f : Ticket → List Ticket) → find (named t.number) ts ≡ Some t → AllByRecursion (Same t) (f t) → ((c : ℕ) → total (one c) (f t) ≡ one c t)
     → ((c : ℕ) → load c (edit (named t.number) f ts) ≡ load c ts) × ((c m : ℕ) → marks_of m c (edit (named t.number) f ts) ≡ marks_of m c ts)
 keeps_marks ts t f e same h = (
   (λ c. let k = (edit_marks c 0 0 0 f ts t e same (let i = h c in omega arith)).0 in omega arith),

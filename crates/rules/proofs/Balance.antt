@@ -1,6 +1,6 @@
 -- The books balance: every number taken is of one kind, and the tickets are those that the history says.
 use Rattle.std.proofs.Common.{◌≡◌, ℕ, suc, ◌+◌, ◌<◌, ◌≤◌, Bool, true, false, cond, ◌&&◌, ◌||◌, eqb, ltb, List, [], ◌∷◌, length, Some, None, Option, sym, refl, ap, ◌∙◌, arith}
-use Rattle.std.specs.List.{AllByRecursion as All}
+use Rattle.std.specs.List.{AllByRecursion}
 use Rattle.std.proofs.lemmas.Bool.{eqb-true, eq-eqb, ne_eqb, or_left, or_right}
 use Rattle.std.proofs.ByRecursion.{All-weaker}
 use Rattle.rules.specs.declared.ticket.Ticket.{Ticket}
@@ -54,7 +54,7 @@ numbers_counted n (Event.collected m ∷ h) = omega (arith, numbers_counted n h)
 numbers_counted n (Event.dropped m ∷ h) = omega (arith, numbers_counted n h)
 numbers_counted n (Event.returned m ∷ h) = omega (arith, numbers_counted n h)
 
-numbers_taken : (h : List Event) → All (λ m. is_taken h m ≡ true) (numbers h)
+numbers_taken : (h : List Event) → AllByRecursion (λ m. is_taken h m ≡ true) (numbers h)
 numbers_taken [] = tt
 numbers_taken (Event.taken m q ∷ h) = (
   or_left (eqb m m) (is_taken h m) (eq-eqb m m refl),
@@ -66,7 +66,7 @@ numbers_taken (Event.dropped m ∷ h) = numbers_taken h
 numbers_taken (Event.returned m ∷ h) = numbers_taken h
 
 -- five counts add up, if each entry counts in exactly one of them
-five_counts : {X : Type 0} (a b c d e : X → Bool) (xs : List X) → All (λ x. unit (a x) + unit (b x) + unit (c x) + unit (d x) + unit (e x) ≡ 1) xs
+five_counts : {X : Type 0} (a b c d e : X → Bool) (xs : List X) → AllByRecursion (λ x. unit (a x) + unit (b x) + unit (c x) + unit (d x) + unit (e x) ≡ 1) xs
     → length xs ≡ count_of a xs + count_of b xs + count_of c xs + count_of d xs + count_of e xs
 five_counts a b c d e [] k = refl
 five_counts a b c d e (x ∷ xs) k = omega (arith, k.0, five_counts a b c d e xs k.1)

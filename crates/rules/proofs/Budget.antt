@@ -1,6 +1,6 @@
 -- The budget of a waiting booking b: the work left of all tickets that a step can come to. A step pays one, and no other call raises it.
 use Rattle.std.proofs.Common.{◌≡◌, ℕ, suc, ◌+◌, ◌-◌, ◌*◌, ◌<◌, ◌≤◌, Bool, true, false, cond, eqb, leb, List, [], ◌∷◌, Some, sym, refl, subst, arith}
-use Rattle.std.specs.List.{AllByRecursion as All}
+use Rattle.std.specs.List.{AllByRecursion}
 use Rattle.std.proofs.lemmas.Bool.{le-leb, ne_eqb}
 use Rattle.std.proofs.lemmas.Nat.{mul-le}
 use Rattle.std.proofs.lemmas.Bool.Decides.{nat_tests}
@@ -35,7 +35,7 @@ up_to_le last g h t k = at (leb t.number last)
     at true = k
     at false = omega arith
 
-up_to_at : (last : ℕ) (g : Ticket → ℕ) (t : Ticket) (us : List Ticket) (c : Bool) → leb t.number last ≡ c → All (Same t) us
+up_to_at : (last : ℕ) (g : Ticket → ℕ) (t : Ticket) (us : List Ticket) (c : Bool) → leb t.number last ≡ c → AllByRecursion (Same t) us
     → total (up_to last g) us ≡ cond c (total g us) 0
 up_to_at last g t [] true e a = refl
 up_to_at last g t [] false e a = refl
@@ -48,7 +48,7 @@ up_to_at last g t (u ∷ us) false e a =
     let r : up_to last g u ≡ 0 = rw q refl in
     omega (arith, up_to_at last g t us false e a.1)
 
-pub up_to_call : (last : ℕ) (g : Ticket → ℕ) (t : Ticket) (us : List Ticket) → All (Same t) us → total g us ≤ g t → total (up_to last g) us ≤ up_to last g t
+pub up_to_call : (last : ℕ) (g : Ticket → ℕ) (t : Ticket) (us : List Ticket) → AllByRecursion (Same t) us → total g us ≤ g t → total (up_to last g) us ≤ up_to last g t
 up_to_call last g t us a h = at (leb t.number last) (up_to_at last g t us (leb t.number last) refl a)
   where
     at : (c : Bool) → total (up_to last g) us ≡ cond c (total g us) 0 → total (up_to last g) us ≤ cond c (g t) 0
@@ -133,7 +133,7 @@ module _ (z : Sizes) (b : ℕ) where
       (λ A. step_lowers z vacant b A handbacks w e h l) (step_returns z vacant b handbacks w e)
 
   -- a call on one ticket that leaves it no more work, nor makes it returnable
-  budget_call : (u handbacks : ℕ) (f : Ticket → List Ticket) (ts : List Ticket) (t : Ticket) → find (named t.number) ts ≡ Some t → All (Same t) (f t)
+  budget_call : (u handbacks : ℕ) (f : Ticket → List Ticket) (ts : List Ticket) (t : Ticket) → find (named t.number) ts ≡ Some t → AllByRecursion (Same t) (f t)
       → ((A : ℕ) → total (λ v. work z.columns b A handbacks v.phase v) (f t) ≤ work z.columns b A handbacks t.phase t)
       → total (λ v. returnable b v.phase v) (f t) ≤ returnable b t.phase t
       → budget u handbacks (edit (named t.number) f ts) ≤ budget u handbacks ts

@@ -1,6 +1,6 @@
 -- What is found under each number after a call that changes one ticket.
 use Rattle.std.proofs.Common.{◌≡◌, ℕ, List, [], ◌∷◌, Some, None, Option, refl, ◌∙◌}
-use Rattle.std.specs.List.{AllByRecursion as All}
+use Rattle.std.specs.List.{AllByRecursion}
 use Rattle.rules.specs.declared.ticket.Ticket.{Ticket}
 use Rattle.rules.specs.declared.ticket.Phase.TheVariants.{Out, Closing}
 use Rattle.rules.specs.Lists.{find, edit}
@@ -32,13 +32,13 @@ pub record Change (x y : Rack) (t : Ticket) (us : List Ticket) : Type 0 where
   pub others : (n : ℕ) → (n ≡ t.number → ⊥) → find (named n) y.tickets ≡ find (named n) x.tickets
 
 find_after : (n lo hi : ℕ) (f : Ticket → List Ticket) (ts us : List Ticket) (w : Ticket) → Rising lo hi ts → find (named n) ts ≡ Some w → w.number ≡ n
-    → f w ≡ us → Few us → All (Same w) us → find (named n) (edit (named n) f ts) ≡ head_of us
+    → f w ≡ us → Few us → AllByRecursion (Same w) us → find (named n) (edit (named n) f ts) ≡ head_of us
 find_after n lo hi f ts _ w r p k q Few.none a = find_gone n lo hi f ts w r p q
 find_after n lo hi f ts _ w r p k q (Few.one v) a = find_same n f ts w v p q (a.0.0 ∙ k)
 
 module _ (x : Rack) (sd : Sound x) (t : Ticket) (found : find (named t.number) x.tickets ≡ Some t) where
   edited : (y : Rack) (f : Ticket → List Ticket) → y.first ≡ x.first → y.next ≡ x.next → y.tickets ≡ edit (named t.number) f x.tickets
-      → ((u : Ticket) → Few (f u)) → ((u : Ticket) → All (Same u) (f u)) → Change x y t (f t)
+      → ((u : Ticket) → Few (f u)) → ((u : Ticket) → AllByRecursion (Same u) (f u)) → Change x y t (f t)
   edited y f a b e few same =
       record {
         first = a;

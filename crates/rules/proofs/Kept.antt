@@ -1,6 +1,6 @@
 -- Every call keeps the rack sound.
 use Rattle.std.proofs.Common.{◌≡◌, ℕ, suc, ◌+◌, ◌-◌, ◌*◌, ◌<◌, ◌≤◌, Bool, true, false, cond, ◌&&◌, eqb, leb, ◌⊎◌, List, [], ◌∷◌, Some, sym, refl, ap, ◌∙◌, subst, inl, inr, arith}
-use Rattle.std.specs.List.{AllByRecursion as All}
+use Rattle.std.specs.List.{AllByRecursion}
 use Rattle.std.proofs.ByRecursion.{All-append, All-weaker}
 use Rattle.std.proofs.lemmas.List.{length_push, length-replicate}
 use Rattle.std.proofs.lemmas.Bool.{and_parts, eqb-true, eqb-false, leb-true, leb-false}
@@ -72,14 +72,14 @@ fit_wiped_back z n g t false e p f s =
     lower (inr i) = inr (omega arith)
 
 fit_wiped_close : (z : Sizes) (n : ℕ) (t : Ticket) (b : Bool) → leb t.marks 1 ≡ b → t.phase ≡ Closing → Fit z n t → Shape z Closing t
-    → All (Fit z n) (cond b [] (with_marks (t.marks - 1) t ∷ []))
+    → AllByRecursion (Fit z n) (cond b [] (with_marks (t.marks - 1) t ∷ []))
 fit_wiped_close z n t true e p f s = tt
 fit_wiped_close z n t false e p f s =
     let k = leb-false t.marks 1 e in
     let h = f.held in let r = f.reach in
     (fit_marks z n (t.marks - 1) t f (omega arith) (omega arith) (subst (λ (q : Phase). Shape z q (with_marks (t.marks - 1) t)) (sym p) (omega arith, s.1)), tt)
 
-fit_wiped : (z : Sizes) (n : ℕ) (t : Ticket) (p : Phase) → t.phase ≡ p → retreats p ≡ true → Fit z n t → Shape z p t → All (Fit z n) (wiped n p t)
+fit_wiped : (z : Sizes) (n : ℕ) (t : Ticket) (p : Phase) → t.phase ≡ p → retreats p ≡ true → Fit z n t → Shape z p t → AllByRecursion (Fit z n) (wiped n p t)
 fit_wiped z n t Forward q e f s = let y : ◌≡◌ {A = ℕ} 0 1 = cc in absurd (omega arith)
 fit_wiped z n t (Backing g) q e f s = (fit_wiped_back z n g t (leb t.marks 1) refl q f s, tt)
 fit_wiped z n t Without q e f s = let y : ◌≡◌ {A = ℕ} 0 1 = cc in absurd (omega arith)
@@ -99,7 +99,7 @@ inside_at z t Granted s e = inr s.1
 inside_at z t Out s e = inr s.1
 inside_at z t Closing s e = inr s.1
 
-fit_at : (z : Sizes) (n : ℕ) (vacant : Bool) (t : Ticket) (a : Action) → Fit z n t → Says z n vacant t a → All (Fit z n) (after n a t)
+fit_at : (z : Sizes) (n : ℕ) (vacant : Bool) (t : Ticket) (a : Action) → Fit z n t → Says z n vacant t a → AllByRecursion (Fit z n) (after n a t)
 fit_at z n vacant t action.Wipe f s = fit_wiped z n t t.phase refl s f f.shape
 fit_at z n vacant t action.Over f s =
     let i = f.inside in
@@ -118,7 +118,7 @@ fit_at z n vacant t action.Wall f s =
     let h = f.held in let i = s.1 in let d = s.2 in let b = f.begun in
     (fit_redirect z n (ahead t + 1) t (eqb t.marks 0) refl f (omega arith) (omega arith) (inr (omega arith)) (inr s.1), tt)
 
-fit_after : (z : Sizes) (n : ℕ) (vacant : Bool) (t : Ticket) → soft t.phase ≡ true → Fit z n t → All (Fit z n) (after n (duty z n vacant t) t)
+fit_after : (z : Sizes) (n : ℕ) (vacant : Bool) (t : Ticket) → soft t.phase ≡ true → Fit z n t → AllByRecursion (Fit z n) (after n (duty z n vacant t) t)
 fit_after z n vacant t e f = fit_at z n vacant t (duty z n vacant t) f (says z n vacant t e)
 
 fit_later : (z : Sizes) (n : ℕ) (t : Ticket) → Fit z n t → Fit z (suc n) t
@@ -126,7 +126,7 @@ fit_later z n t f =
     record { some = f.some; most = f.most; inside = f.inside; begun = f.begun; held = f.held; reach = f.reach; noted = let k = f.noted in omega arith; shape = f.shape }
 
 fit_withdrawn : (z : Sizes) (n : ℕ) (t : Ticket) (b : Bool) → eqb t.marks 0 ≡ b → Fit z n t → (t.marks ≡ 0) ⊎ (t.first + t.request.length ≤ z.columns)
-    → All (Fit z n) (cond b [] (with_phase Closing t ∷ []))
+    → AllByRecursion (Fit z n) (cond b [] (with_phase Closing t ∷ []))
 fit_withdrawn z n t true e f i = tt
 fit_withdrawn z n t false e f (inl i) = absurd (eqb-false t.marks 0 e i)
 fit_withdrawn z n t false e f (inr i) = let k = eqb-false t.marks 0 e in (fit_phase z n t Closing f (omega arith, i), tt)
@@ -161,7 +161,7 @@ alive_after z n vacant t action.Wall s = let k = one_at_most (live (redirect n (
 
 -- a change of one ticket, with the count that may rise by one
 sound_edit : (x : Rack) (t : Ticket) (f : Ticket → List Ticket) (y : Rack) → Sound x → find (named t.number) x.tickets ≡ Some t
-    → ((u : Ticket) → Few (f u)) → ((u : Ticket) → All (Same u) (f u)) → All (Fit x.sizes x.handbacks) (f t)
+    → ((u : Ticket) → Few (f u)) → ((u : Ticket) → AllByRecursion (Same u) (f u)) → AllByRecursion (Fit x.sizes x.handbacks) (f t)
     → y.sizes ≡ x.sizes → y.first ≡ x.first → y.next ≡ x.next → y.tickets ≡ edit (named t.number) f x.tickets
     → (y.handbacks ≡ x.handbacks) ⊎ (y.handbacks ≡ suc x.handbacks) → y.handbacks + total alive (f t) ≤ x.handbacks + alive t → Agree y → Sound y
 sound_edit x t f y s e few same fit z i n q h l a =
@@ -181,8 +181,8 @@ sound_edit x t f y s e few same fit z i n q h l a =
     us : List Ticket
     us = edit (named t.number) f x.tickets
 
-    later : (y.handbacks ≡ x.handbacks) ⊎ (y.handbacks ≡ suc x.handbacks) → All (Fit x.sizes x.handbacks) (edit (named t.number) f x.tickets)
-        → All (Fit x.sizes y.handbacks) (edit (named t.number) f x.tickets)
+    later : (y.handbacks ≡ x.handbacks) ⊎ (y.handbacks ≡ suc x.handbacks) → AllByRecursion (Fit x.sizes x.handbacks) (edit (named t.number) f x.tickets)
+        → AllByRecursion (Fit x.sizes y.handbacks) (edit (named t.number) f x.tickets)
     later (inl k) b = rw k b
     later (inr k) b = rw k (All-weaker (Fit x.sizes x.handbacks) (Fit x.sizes (suc x.handbacks)) (fit_later x.sizes x.handbacks) (edit (named t.number) f x.tickets) b)
 

@@ -1,6 +1,6 @@
 -- The ledger of a history lists what the tickets have booked, so that every decision is its next entry.
 use Rattle.std.proofs.Common.{◌≡◌, ℕ, suc, ◌+◌, ◌<◌, ◌≤◌, Bool, true, false, cond, eqb, List, [], ◌∷◌, ◌++◌, Some, Option, sym, refl, ap, ◌∙◌, subst, inl, inr, arith}
-use Rattle.std.specs.List.{AllByRecursion as All}
+use Rattle.std.specs.List.{AllByRecursion}
 use Rattle.std.proofs.ByRecursion.{All-append, All-push, All-weaker}
 use Rattle.std.proofs.lemmas.Bool.{eqb-true, eqb-false, eq-eqb, ne_eqb, le-leb, lt-ltb, false≢true}
 use Rattle.std.proofs.lemmas.Bool.Decides.{nat_tests}
@@ -47,8 +47,8 @@ Listed es t = hard t.phase ≡ true → find (under t.number) es ≡ Some (entry
 
 -- the history agrees with the tickets: requests, entries, and loads
 pub record Booked (h : List Event) (x : Rack) : Type 0 where
-  pub asked : All (Asked h) x.tickets
-  pub listed : All (Listed (ledger h)) x.tickets
+  pub asked : AllByRecursion (Asked h) x.tickets
+  pub listed : AllByRecursion (Listed (ledger h)) x.tickets
   pub agrees : (c : ℕ) → load_of (ledger h) c ≡ booked_in c x.tickets
 
 -- an entry struck: the loads, and the other entries
@@ -71,36 +71,36 @@ removed_other n m (e ∷ es) d = other_at n m e es (eqb e.number m) refl d (remo
 
 -- a change of ticket w, where the others are known to have other numbers
 rest_other : (P Q : Ticket → Type 0) (n lo hi : ℕ) (ts : List Ticket) → Rising lo hi ts → n < lo
-    → ((t : Ticket) → (t.number ≡ n → ⊥) → P t → Q t) → All P ts → All Q ts
+    → ((t : Ticket) → (t.number ≡ n → ⊥) → P t → Q t) → AllByRecursion P ts → AllByRecursion Q ts
 rest_other P Q n lo hi [] r l k a = tt
 rest_other P Q n lo hi (t ∷ ts) r l k a =
     let j = r.0 in
     (k t (λ e. omega arith) a.0, rest_other P Q n (suc t.number) hi ts r.1 (omega arith) k a.1)
 
 edit_rest_at : (P Q : Ticket → Type 0) (n lo hi : ℕ) (f : Ticket → List Ticket) (u : Ticket) (ts : List Ticket) (w : Ticket) (b : Bool) → eqb u.number n ≡ b
-    → Rising lo hi (u ∷ ts) → ((t : Ticket) → (t.number ≡ n → ⊥) → P t → Q t) → All Q (f w) → P u → All P ts
-    → (find (named n) ts ≡ Some w → All Q (edit (named n) f ts))
-    → cond b (Some u) (find (named n) ts) ≡ Some w → All Q (cond b (f u ++ ts) (u ∷ edit (named n) f ts))
+    → Rising lo hi (u ∷ ts) → ((t : Ticket) → (t.number ≡ n → ⊥) → P t → Q t) → AllByRecursion Q (f w) → P u → AllByRecursion P ts
+    → (find (named n) ts ≡ Some w → AllByRecursion Q (edit (named n) f ts))
+    → cond b (Some u) (find (named n) ts) ≡ Some w → AllByRecursion Q (cond b (f u ++ ts) (u ∷ edit (named n) f ts))
 edit_rest_at P Q n lo hi f u ts w true e r k d a rest ih p =
     let j = eqb-true u.number n e in
-    All-append Q (f u) ts (subst (λ (t : Ticket). All Q (f t)) (sym (some_inj u w p)) d) (rest_other P Q n (suc u.number) hi ts r.1 (omega arith) k rest)
+    All-append Q (f u) ts (subst (λ (t : Ticket). AllByRecursion Q (f t)) (sym (some_inj u w p)) d) (rest_other P Q n (suc u.number) hi ts r.1 (omega arith) k rest)
 edit_rest_at P Q n lo hi f u ts w false e r k d a rest ih p = (k u (eqb-false u.number n e) a, ih p)
 
 edit_rest : (P Q : Ticket → Type 0) (n lo hi : ℕ) (f : Ticket → List Ticket) (ts : List Ticket) (w : Ticket) → Rising lo hi ts → find (named n) ts ≡ Some w
-    → ((t : Ticket) → (t.number ≡ n → ⊥) → P t → Q t) → All Q (f w) → All P ts → All Q (edit (named n) f ts)
+    → ((t : Ticket) → (t.number ≡ n → ⊥) → P t → Q t) → AllByRecursion Q (f w) → AllByRecursion P ts → AllByRecursion Q (edit (named n) f ts)
 edit_rest P Q n lo hi f [] w r p k d a = tt
 edit_rest P Q n lo hi f (u ∷ ts) w r p k d a =
     edit_rest_at P Q n lo hi f u ts w (eqb u.number n) refl r k d a.0 a.1 (λ q. edit_rest P Q n (suc u.number) hi f ts w r.1 q k d a.1) p
 
 -- only a grant makes a soft ticket hard
-not_hard : (n : ℕ) (a : Action) (t : Ticket) → soft t.phase ≡ true → is_grant a ≡ false → All (λ u. hard u.phase ≡ false) (after n a t)
+not_hard : (n : ℕ) (a : Action) (t : Ticket) → soft t.phase ≡ true → is_grant a ≡ false → AllByRecursion (λ u. hard u.phase ≡ false) (after n a t)
 not_hard n a t e d = grind (arith, nat_tests)
 
-withdrawn_not_hard : (t : Ticket) → All (λ u. hard u.phase ≡ false) (withdrawn t)
+withdrawn_not_hard : (t : Ticket) → AllByRecursion (λ u. hard u.phase ≡ false) (withdrawn t)
 withdrawn_not_hard t = grind (arith, nat_tests)
 
 -- a ticket that is not hard needs no entry
-not_listed : (es : List Entry) (us : List Ticket) → All (λ u. hard u.phase ≡ false) us → All (Listed es) us
+not_listed : (es : List Entry) (us : List Ticket) → AllByRecursion (λ u. hard u.phase ≡ false) us → AllByRecursion (Listed es) us
 not_listed es us a = All-weaker (λ u. hard u.phase ≡ false) (Listed es) (λ u p q. absurd (false≢true (sym p ∙ q))) us a
 
 module _ (x : Rack) (w : Ticket) (row : ℕ) (h : List Event) (es : List Entry) where
@@ -118,10 +118,10 @@ module _ (x : Rack) (w : Ticket) (row : ℕ) (h : List Event) (es : List Entry) 
   entered_load vacant action.Mark y k c = omega arith
   entered_load vacant action.Wall y k c = omega arith
 
-  soft_listed : (a : Action) → soft w.phase ≡ true → is_grant a ≡ false → All (Listed es) (after x.handbacks a w)
+  soft_listed : (a : Action) → soft w.phase ≡ true → is_grant a ≡ false → AllByRecursion (Listed es) (after x.handbacks a w)
   soft_listed a e g = not_listed es (after x.handbacks a w) (not_hard x.handbacks a w e g)
 
-  entered_own : (a : Action) → soft w.phase ≡ true → Asked h w → All (Listed (entered (told a) a h es)) (after x.handbacks a w)
+  entered_own : (a : Action) → soft w.phase ≡ true → Asked h w → AllByRecursion (Listed (entered (told a) a h es)) (after x.handbacks a w)
   entered_own action.Wipe e k = soft_listed action.Wipe e refl
   entered_own action.Over e k = soft_listed action.Over e refl
   entered_own action.Without e k = soft_listed action.Without e refl
@@ -137,11 +137,11 @@ module _ (x : Rack) (w : Ticket) (row : ℕ) (h : List Event) (es : List Entry) 
   entered_other action.Mark n d = refl
   entered_other action.Wall n d = refl
 
-asked_same : (h : List Event) (t : Ticket) (us : List Ticket) → Asked h t → All (Same t) us → All (Asked h) us
+asked_same : (h : List Event) (t : Ticket) (us : List Ticket) → Asked h t → AllByRecursion (Same t) us → AllByRecursion (Asked h) us
 asked_same h t us k a = All-weaker (Same t) (Asked h) (λ u s. rw s.0 (k ∙ sym s.1)) us a
 
-asked_edit : (h : List Event) (ts : List Ticket) (t : Ticket) (f : Ticket → List Ticket) → find (named t.number) ts ≡ Some t → All (Same t) (f t)
-    → All (Asked h) ts → All (Asked h) (edit (named t.number) f ts)
+asked_edit : (h : List Event) (ts : List Ticket) (t : Ticket) (f : Ticket → List Ticket) → find (named t.number) ts ≡ Some t → AllByRecursion (Same t) (f t)
+    → AllByRecursion (Asked h) ts → AllByRecursion (Asked h) (edit (named t.number) f ts)
 asked_edit h ts t f p s a =
     all_edit (Asked h) (named t.number) f ts t p (asked_same h t (f t) (all_in (Asked h) ts t a (find_in (named t.number) ts t p).0) s) a
 
@@ -163,8 +163,8 @@ booked_report h x w row sd k b =
     }
 
 -- a new number: what the others asked for stays
-asked_taken : (h : List Event) (n : ℕ) (q : Request) (lo : ℕ) (ts : List Ticket) → All (Between lo n) ts → All (Asked h) ts
-    → All (Asked (Event.taken n q ∷ h)) ts
+asked_taken : (h : List Event) (n : ℕ) (q : Request) (lo : ℕ) (ts : List Ticket) → AllByRecursion (Between lo n) ts → AllByRecursion (Asked h) ts
+    → AllByRecursion (Asked (Event.taken n q ∷ h)) ts
 asked_taken h n q lo [] r a = tt
 asked_taken h n q lo (t ∷ ts) r a =
     let l = r.0.1 in

@@ -1,6 +1,6 @@
 -- Lemmas on lists: sums, the first that passes, and what a change of one entry does to them.
 use Rattle.std.proofs.Common.{◌≡◌, ℕ, suc, ◌+◌, ◌≤◌, Bool, true, false, cond, ◌⊎◌, List, [], ◌∷◌, ◌++◌, length, Some, None, Option, sym, refl, ap, ◌∙◌, subst, inl, inr, arith}
-use Rattle.std.specs.List.{AllByRecursion as All}
+use Rattle.std.specs.List.{AllByRecursion}
 use Rattle.std.proofs.ByRecursion.{All-append}
 use Rattle.rules.specs.Lists.{total, find, edit}
 
@@ -29,7 +29,7 @@ module _ {X : Type 0} where
   total_in g (y ∷ ys) x (inl e) = rw e (omega arith)
   total_in g (y ∷ ys) x (inr i) = omega (arith, total_in g ys x i)
 
-  pub total_same : (g h : X → ℕ) (xs : List X) → All (λ x. g x ≡ h x) xs → total g xs ≡ total h xs
+  pub total_same : (g h : X → ℕ) (xs : List X) → AllByRecursion (λ x. g x ≡ h x) xs → total g xs ≡ total h xs
   total_same g h [] a = refl
   total_same g h (x ∷ xs) a = omega (arith, a.0, total_same g h xs a.1)
 
@@ -68,20 +68,20 @@ module _ {X : Type 0} where
   find_some p [] x i q = absurd i
   find_some p (y ∷ ys) x i q = found_at p y ys x (p y) refl q i (λ k. find_some p ys x k q)
 
-  pub all_in : (P : X → Type 0) (xs : List X) (x : X) → All P xs → In x xs → P x
+  pub all_in : (P : X → Type 0) (xs : List X) (x : X) → AllByRecursion P xs → In x xs → P x
   all_in P [] x a i = absurd i
   all_in P (y ∷ ys) x a (inl e) = rw e at a.0
   all_in P (y ∷ ys) x a (inr i) = all_in P ys x a.1 i
 
   all_edit_at : (P : X → Type 0) (p : X → Bool) (f : X → List X) (y : X) (ys : List X) (x : X) (b : Bool)
-      → (find p ys ≡ Some x → All P (edit p f ys)) → All P (f x) → P y → All P ys
-      → cond b (Some y) (find p ys) ≡ Some x → All P (cond b (f y ++ ys) (y ∷ edit p f ys))
-  all_edit_at P p f y ys x true ih k a rest e = let q = some_inj y x e in All-append P (f y) ys (subst (λ (t : X). All P (f t)) (sym q) k) rest
+      → (find p ys ≡ Some x → AllByRecursion P (edit p f ys)) → AllByRecursion P (f x) → P y → AllByRecursion P ys
+      → cond b (Some y) (find p ys) ≡ Some x → AllByRecursion P (cond b (f y ++ ys) (y ∷ edit p f ys))
+  all_edit_at P p f y ys x true ih k a rest e = let q = some_inj y x e in All-append P (f y) ys (subst (λ (t : X). AllByRecursion P (f t)) (sym q) k) rest
   all_edit_at P p f y ys x false ih k a rest e = (a, ih e)
 
   -- all entries have it, and what the changed one becomes
   pub all_edit : (P : X → Type 0) (p : X → Bool) (f : X → List X) (xs : List X) (x : X)
-      → find p xs ≡ Some x → All P (f x) → All P xs → All P (edit p f xs)
+      → find p xs ≡ Some x → AllByRecursion P (f x) → AllByRecursion P xs → AllByRecursion P (edit p f xs)
   all_edit P p f [] x e k a = tt
   all_edit P p f (y ∷ ys) x e k a = all_edit_at P p f y ys x (p y) (λ q. all_edit P p f ys x q k a.1) k a.0 a.1 e
 

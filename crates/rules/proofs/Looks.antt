@@ -2,7 +2,7 @@
 use Rattle.std.proofs.Common.{◌≡◌, ℕ, suc, ◌+◌, ◌<◌, ◌≤◌, Bool, true, false, cond, ◌&&◌, ◌||◌, eqb, ltb, leb, List, [], ◌∷◌, length, Some, Option, sym, refl, ap, ◌∙◌, inl, inr, arith}
 use Rattle.std.proofs.lemmas.Bool.{eqb-true, eq-eqb, ne_eqb}
 use Rattle.std.proofs.lemmas.Bool.Decides.{nat_tests}
-use Rattle.std.specs.List.{AllByRecursion as All}
+use Rattle.std.specs.List.{AllByRecursion}
 use Rattle.rules.specs.declared.slot.Slot.{Slot}
 use Rattle.rules.specs.declared.slot.Slot.TheVariants.{Vacant, Marked}
 use Rattle.rules.specs.declared.ticket.Ticket.{Ticket}
@@ -146,13 +146,13 @@ sees_wall x s c h =
 pub load_most : (x : Rack) → Sound x → (c : ℕ) → c < x.sizes.columns → load c x.tickets ≤ x.sizes.rows
 load_most x s c h = let k = s.agree.vacant c h in omega arith
 
-find_same_test : (p q : Ticket → Bool) (ts : List Ticket) → All (λ t. p t ≡ q t) ts → find p ts ≡ find q ts
+find_same_test : (p q : Ticket → Bool) (ts : List Ticket) → AllByRecursion (λ t. p t ≡ q t) ts → find p ts ≡ find q ts
 find_same_test p q [] a = refl
 find_same_test p q (t ∷ ts) a =
     ap (λ (b : Bool). cond b (Some t) (find p ts)) a.0 ∙ ap (λ (o : Option Ticket). cond (q t) (Some t) o) (find_same_test p q ts a.1)
 
 each_mark : (x : Rack) → Sound x → (c : ℕ) → c < x.sizes.columns → (ts : List Ticket) → ((t : Ticket) → In t ts → In t x.tickets)
-    → All (λ t. (soft t.phase && has_mark x c t) ≡ (soft t.phase && marks_in c t)) ts
+    → AllByRecursion (λ t. (soft t.phase && has_mark x c t) ≡ (soft t.phase && marks_in c t)) ts
 each_mark x s c h [] k = tt
 each_mark x s c h (t ∷ ts) k = (ap (λ (b : Bool). soft t.phase && b) (sees_mark x s c h t (k t (inl refl))), each_mark x s c h ts (λ u i. k u (inr i)))
 

@@ -1,7 +1,7 @@
 -- Every turn of a lawful chooser extends the history that leads to the rack: so what holds of histories holds of lists of calls.
 use Rattle.std.proofs.Common.{◌≡◌, ℕ, zero, suc, ◌*◌, ◌≤◌, min, Bool, true, false, cond, eqb, leb, ◌⊎◌, List, [], ◌∷◌, ◌++◌, map, reverse, length, drop, Some, None, Ok, Err, Option, Result, sym, refl, ap, ◌∙◌, subst, inl, inr, arith}
 use mathlib.Core.List.{reverse_aux-eq}
-use Rattle.std.specs.List.{AllByRecursion as All}
+use Rattle.std.specs.List.{AllByRecursion}
 use Rattle.std.proofs.lemmas.List.{length-take}
 use Rattle.std.proofs.lemmas.Bool.{and_parts, leb-true}
 use Rattle.std.proofs.lemmas.Bool.Decides.{nat_tests}
@@ -229,7 +229,7 @@ turn_reaches p r choose lawful (Call.returning n) =
     tells_reaches p r (λ _. Event.returned n) (back x n).rack (back x n).answer (λ _ k. Accepts.backs n k) (λ e k. back_refused x n e k)
 
 -- and so does a list of turns
-pub play_reaches : (p : Told) → Reached p → (ts : List Turn) → All (λ t. Lawful (recalling t.choose)) ts → Reached (played p ts)
+pub play_reaches : (p : Told) → Reached p → (ts : List Turn) → AllByRecursion (λ t. Lawful (recalling t.choose)) ts → Reached (played p ts)
 play_reaches p r [] a = r
 play_reaches p r (t ∷ ts) (l, a) = play_reaches (turned p t.choose t.call) (turn_reaches p r t.choose l t.call) ts a
 

@@ -1,6 +1,6 @@
 -- A step that names a soft ticket is always served, and changes one ticket; and nothing wraps.
 use Rattle.std.proofs.Common.{◌≡◌, ℕ, ◌+◌, ◌-◌, ◌≤◌, Bool, true, false, cond, eqb, leb, List, [], ◌∷◌, Some, sym, refl, ap, ◌∙◌, arith}
-use Rattle.std.specs.List.{AllByRecursion as All}
+use Rattle.std.specs.List.{AllByRecursion}
 use Rattle.std.proofs.lemmas.Bool.{eq-eqb, eqb-true}
 use Rattle.rules.specs.declared.ticket.Ticket.{Ticket}
 use Rattle.rules.specs.declared.ticket.Phase.{Phase}
@@ -44,11 +44,11 @@ other_wiped_back : (n g : ℕ) (t : Ticket) (b : Bool) → t.phase ≡ Backing g
 other_wiped_back n g t true e h = other_phase t (sets_out n g t) (Backing g) e (λ q. forward_backing g (sym q))
 other_wiped_back n g t false e h = fewer_marks t h
 
-other_wiped_close : (t : Ticket) (b : Bool) → 1 ≤ t.marks → All (Other t) (cond b [] (with_marks (t.marks - 1) t ∷ []))
+other_wiped_close : (t : Ticket) (b : Bool) → 1 ≤ t.marks → AllByRecursion (Other t) (cond b [] (with_marks (t.marks - 1) t ∷ []))
 other_wiped_close t true h = tt
 other_wiped_close t false h = (fewer_marks t h, tt)
 
-other_wiped : (z : Sizes) (n : ℕ) (t : Ticket) (p : Phase) → t.phase ≡ p → retreats p ≡ true → Shape z p t → All (Other t) (wiped n p t)
+other_wiped : (z : Sizes) (n : ℕ) (t : Ticket) (p : Phase) → t.phase ≡ p → retreats p ≡ true → Shape z p t → AllByRecursion (Other t) (wiped n p t)
 other_wiped z n t Forward q e s = let y : ◌≡◌ {A = ℕ} 0 1 = cc in absurd (omega arith)
 other_wiped z n t (Backing g) q e s = (other_wiped_back n g t (leb t.marks 1) q s.0, tt)
 other_wiped z n t Without q e s = let y : ◌≡◌ {A = ℕ} 0 1 = cc in absurd (omega arith)
@@ -57,7 +57,7 @@ other_wiped z n t Out q e s = let y : ◌≡◌ {A = ℕ} 0 1 = cc in absurd (om
 other_wiped z n t Closing q e s = other_wiped_close t (leb t.marks 1) s.0
 
 -- no action leaves the ticket as it was
-other_after : (z : Sizes) (n : ℕ) (vacant : Bool) (t : Ticket) (a : Action) → Fit z n t → Says z n vacant t a → All (Other t) (after n a t)
+other_after : (z : Sizes) (n : ℕ) (vacant : Bool) (t : Ticket) (a : Action) → Fit z n t → Says z n vacant t a → AllByRecursion (Other t) (after n a t)
 other_after z n vacant t action.Wipe f s = other_wiped z n t t.phase refl s f.shape
 other_after z n vacant t action.Over f s =
     (other_redirect n t.request.start t (eqb t.marks 0) refl s.0 (λ m q. s.1 (sym (ap (λ (v : Ticket). v.seen) q) ∙ now_seen)), tt)
@@ -71,7 +71,7 @@ other_after z n vacant t action.Wall f s =
     (other_redirect n (ahead t + 1) t (eqb t.marks 0) refl s.0 (λ m q. let k = ap (λ (v : Ticket). v.first) q in omega arith), tt)
 
 changes_at : (x : Rack) → Sound x → (w : Ticket) → find (named w.number) x.tickets ≡ Some w → (f : Ticket → List Ticket) (us : List Ticket) → f w ≡ us → Few us
-    → All (Same w) us → All (Other w) us → find (named w.number) (edit (named w.number) f x.tickets) ≡ Some w → ⊥
+    → AllByRecursion (Same w) us → AllByRecursion (Other w) us → find (named w.number) (edit (named w.number) f x.tickets) ≡ Some w → ⊥
 changes_at x s w e f _ q Few.none a o p = some_none w (sym p ∙ find_gone w.number x.first x.next f x.tickets w s.rising e q)
 changes_at x s w e f _ q (Few.one v) a o p = o.0 (some_inj v w (sym (find_same w.number f x.tickets w v e q a.0.0) ∙ p))
 

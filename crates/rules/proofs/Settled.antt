@@ -5,7 +5,7 @@ use mathlib.Core.Logic.{∥∥₁_elim}
 use mathlib.Core.HLevel.{Π_prop, ×_prop}
 use native.Mathlib.Bridge.{le_prop}
 use native.Mathlib.Nat.{ℕ_set}
-use Rattle.std.specs.List.{AllByRecursion as All}
+use Rattle.std.specs.List.{AllByRecursion}
 use Rattle.rules.specs.declared.ticket.Ticket.{Ticket}
 use Rattle.rules.specs.declared.ticket.Phase.{Phase}
 use Rattle.rules.specs.declared.ticket.Phase.TheVariants.{Forward, Backing, Without, Granted, Out, Closing}
@@ -24,7 +24,7 @@ rising_prop : (lo hi : ℕ) (ts : List Ticket) → IsProp (Rising lo hi ts)
 rising_prop lo hi [] = le_prop
 rising_prop lo hi (t ∷ ts) = ×_prop le_prop (rising_prop (suc t.number) hi ts)
 
-all_prop : (P : Ticket → Type 0) → ((t : Ticket) → IsProp (P t)) → (ts : List Ticket) → IsProp (All P ts)
+all_prop : (P : Ticket → Type 0) → ((t : Ticket) → IsProp (P t)) → (ts : List Ticket) → IsProp (AllByRecursion P ts)
 all_prop P k [] = λ a b. refl
 all_prop P k (t ∷ ts) = ×_prop (k t) (all_prop P k ts)
 

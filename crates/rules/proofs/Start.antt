@@ -1,6 +1,6 @@
 -- The budget when a booking is taken: its own, which is at most the longest wait, and that of another, which does not rise.
 use Rattle.std.proofs.Common.{◌≡◌, ℕ, suc, ◌+◌, ◌-◌, ◌*◌, ◌<◌, ◌≤◌, Bool, true, false, cond, eqb, leb, ◌⊎◌, List, [], ◌∷◌, ◌++◌, length, sym, refl, subst, inl, inr, arith}
-use Rattle.std.specs.List.{AllByRecursion as All}
+use Rattle.std.specs.List.{AllByRecursion}
 use Rattle.std.proofs.lemmas.Bool.{eqb-false, le-leb, lt-leb, eq-eqb, ne_eqb, cases_lt}
 use Rattle.std.proofs.lemmas.Nat.{mul-le}
 use Rattle.std.proofs.lemmas.Bool.Decides.{nat_tests}
@@ -107,7 +107,7 @@ most_cost z b A handbacks t h l a = at (leb t.number (b + z.lead)) a
     at true k = most_work z b A handbacks t t.phase (let i = h.reach in omega arith) h.shape (rw (ne_eqb t.number b (λ e. omega arith)) refl) k
     at false k = omega arith
 
-most_total : (z : Sizes) (b lo A handbacks : ℕ) (ts : List Ticket) → All (Fit z handbacks) ts → All (Between lo b) ts → total (backer z b) ts ≤ A
+most_total : (z : Sizes) (b lo A handbacks : ℕ) (ts : List Ticket) → AllByRecursion (Fit z handbacks) ts → AllByRecursion (Between lo b) ts → total (backer z b) ts ≤ A
     → total (cost z b A handbacks) ts ≤ length ts * (A * pass z.columns + pass z.columns)
 most_total z b lo A handbacks [] h l a = omega arith
 most_total z b lo A handbacks (t ∷ ts) h l a =
@@ -135,7 +135,7 @@ own_cost z A x q =
     rw (e, f) (omega arith)
 
 -- the budget of a booking that is taken now
-pub budget_start : (z : Sizes) (lo : ℕ) (x : Rack) (q : Request) → All (Fit z x.handbacks) x.tickets → All (Between lo x.next) x.tickets
+pub budget_start : (z : Sizes) (lo : ℕ) (x : Rack) (q : Request) → AllByRecursion (Fit z x.handbacks) x.tickets → AllByRecursion (Between lo x.next) x.tickets
     → length x.tickets < z.places
     → budget z x.next (suc (x.next + z.lead) - suc x.next) x.handbacks (x.tickets ++ (ticket_for x q ∷ [])) ≤ longest_wait z
 budget_start z lo x q fits under few =

@@ -1,6 +1,6 @@
 -- What an action keeps of a ticket, and tickets in the rising order of their numbers.
 use Rattle.std.proofs.Common.{◌≡◌, ℕ, suc, ◌+◌, ◌-◌, ◌<◌, ◌≤◌, Bool, true, false, cond, eqb, leb, ◌⊎◌, List, [], ◌∷◌, ◌++◌, Some, None, Option, sym, refl, ap, ◌∙◌, subst, inl, inr, arith}
-use Rattle.std.specs.List.{AllByRecursion as All}
+use Rattle.std.specs.List.{AllByRecursion}
 use Rattle.std.proofs.lemmas.Bool.{eqb-true, eqb-false, eq-eqb, ne_eqb}
 use Rattle.rules.specs.declared.ticket.Ticket.{Ticket}
 use Rattle.rules.specs.declared.ticket.Phase.{Phase}
@@ -22,11 +22,11 @@ cond_same : (t u v : Ticket) (b : Bool) → Same t u → Same t v → Same t (co
 cond_same t u v true p q = p
 cond_same t u v false p q = q
 
-cond_all : (t u : Ticket) (b : Bool) → Same t u → All (Same t) (cond b [] (u ∷ []))
+cond_all : (t u : Ticket) (b : Bool) → Same t u → AllByRecursion (Same t) (cond b [] (u ∷ []))
 cond_all t u true p = tt
 cond_all t u false p = (p, tt)
 
-wiped_same : (n : ℕ) (t : Ticket) (p : Phase) → All (Same t) (wiped n p t)
+wiped_same : (n : ℕ) (t : Ticket) (p : Phase) → AllByRecursion (Same t) (wiped n p t)
 wiped_same n t Forward = ((refl, refl), tt)
 wiped_same n t (Backing g) = (cond_same t (sets_out n g t) (with_marks (t.marks - 1) t) (leb t.marks 1) (refl, refl) (refl, refl), tt)
 wiped_same n t Without = ((refl, refl), tt)
@@ -37,7 +37,7 @@ wiped_same n t Closing = cond_all t (with_marks (t.marks - 1) t) (leb t.marks 1)
 redirect_same : (n g : ℕ) (t : Ticket) → Same t (redirect n g t)
 redirect_same n g t = cond_same t (sets_out n g t) (with_phase (Backing g) t) (eqb t.marks 0) (refl, refl) (refl, refl)
 
-pub after_same : (n : ℕ) (a : Action) (t : Ticket) → All (Same t) (after n a t)
+pub after_same : (n : ℕ) (a : Action) (t : Ticket) → AllByRecursion (Same t) (after n a t)
 after_same n action.Wipe t = wiped_same n t t.phase
 after_same n action.Over t = (redirect_same n t.request.start t, tt)
 after_same n action.Without t = ((refl, refl), tt)
@@ -45,7 +45,7 @@ after_same n action.Grant t = ((refl, refl), tt)
 after_same n action.Mark t = ((refl, refl), tt)
 after_same n action.Wall t = (redirect_same n (ahead t + 1) t, tt)
 
-pub withdrawn_same : (t : Ticket) → All (Same t) (withdrawn t)
+pub withdrawn_same : (t : Ticket) → AllByRecursion (Same t) (withdrawn t)
 withdrawn_same t = cond_all t (with_phase Closing t) (eqb t.marks 0) (refl, refl)
 
 few_at : (t : Ticket) (b : Bool) → Few (cond b [] (t ∷ []))
@@ -75,19 +75,19 @@ rising_lower : (lo low hi : ℕ) (ts : List Ticket) → low ≤ lo → Rising lo
 rising_lower lo low hi [] h r = omega arith
 rising_lower lo low hi (t ∷ ts) h r = (omega arith, r.1)
 
-rising_one : (lo hi : ℕ) (u : Ticket) (ts us : List Ticket) → Few us → All (Same u) us → lo ≤ u.number → Rising (suc u.number) hi ts → Rising lo hi (us ++ ts)
+rising_one : (lo hi : ℕ) (u : Ticket) (ts us : List Ticket) → Few us → AllByRecursion (Same u) us → lo ≤ u.number → Rising (suc u.number) hi ts → Rising lo hi (us ++ ts)
 rising_one lo hi u ts _ Few.none a h r = rising_lower (suc u.number) lo hi ts (omega arith) r
 rising_one lo hi u ts _ (Few.one t) a h r = (omega arith, rw a.0.0 r)
 
 rising_edit_at : (lo hi : ℕ) (p : Ticket → Bool) (f : Ticket → List Ticket) (u : Ticket) (ts : List Ticket) (b : Bool)
-    → ((t : Ticket) → Few (f t)) → ((t : Ticket) → All (Same t) (f t))
+    → ((t : Ticket) → Few (f t)) → ((t : Ticket) → AllByRecursion (Same t) (f t))
     → lo ≤ u.number → Rising (suc u.number) hi ts → Rising (suc u.number) hi (edit p f ts) → Rising lo hi (cond b (f u ++ ts) (u ∷ edit p f ts))
 rising_edit_at lo hi p f u ts true few same h r ih = rising_one lo hi u ts (f u) (few u) (same u) h r
 rising_edit_at lo hi p f u ts false few same h r ih = (h, ih)
 
 -- a change of one ticket keeps the order
 pub rising_edit : (lo hi : ℕ) (p : Ticket → Bool) (f : Ticket → List Ticket) (ts : List Ticket)
-    → ((t : Ticket) → Few (f t)) → ((t : Ticket) → All (Same t) (f t)) → Rising lo hi ts → Rising lo hi (edit p f ts)
+    → ((t : Ticket) → Few (f t)) → ((t : Ticket) → AllByRecursion (Same t) (f t)) → Rising lo hi ts → Rising lo hi (edit p f ts)
 rising_edit lo hi p f [] few same r = r
 rising_edit lo hi p f (u ∷ ts) few same r =
     rising_edit_at lo hi p f u ts (p u) few same r.0 r.1 (rising_edit (suc u.number) hi p f ts few same r.1)
@@ -104,11 +104,11 @@ rising_top lo hi (u ∷ us) r = let k = rising_top (suc u.number) hi us r.1 in o
 abbrev pub Between : ℕ → ℕ → Ticket → Type 0
 Between lo hi t = (lo ≤ t.number) × (t.number < hi)
 
-between_wider : (lo low hi : ℕ) (ts : List Ticket) → low ≤ lo → All (Between lo hi) ts → All (Between low hi) ts
+between_wider : (lo low hi : ℕ) (ts : List Ticket) → low ≤ lo → AllByRecursion (Between lo hi) ts → AllByRecursion (Between low hi) ts
 between_wider lo low hi [] h a = tt
 between_wider lo low hi (t ∷ ts) h a = ((let k = a.0.0 in omega arith, a.0.1), between_wider lo low hi ts h a.1)
 
-pub rising_between : (lo hi : ℕ) (ts : List Ticket) → Rising lo hi ts → All (Between lo hi) ts
+pub rising_between : (lo hi : ℕ) (ts : List Ticket) → Rising lo hi ts → AllByRecursion (Between lo hi) ts
 rising_between lo hi [] r = tt
 rising_between lo hi (t ∷ ts) r = (
   (r.0, rising_top (suc t.number) hi ts r.1),
@@ -153,11 +153,11 @@ first_lowest lo hi p [] o t r f i q = absurd i
 first_lowest lo hi p (u ∷ ts) o t r f i q =
     first_at p u ts o t (p u) refl (λ g k. first_lowest (suc u.number) hi p ts o t r.1 g k q) (low_or lo hi u ts t r i) i q f
 
-other_one : (n : ℕ) (u : Ticket) (ts us : List Ticket) → Few us → All (Same u) us → eqb u.number n ≡ false → find (named n) (us ++ ts) ≡ find (named n) ts
+other_one : (n : ℕ) (u : Ticket) (ts us : List Ticket) → Few us → AllByRecursion (Same u) us → eqb u.number n ≡ false → find (named n) (us ++ ts) ≡ find (named n) ts
 other_one n u ts _ Few.none a e = refl
 other_one n u ts _ (Few.one v) a e = let q : eqb v.number n ≡ false = rw a.0.0 e in rw q refl
 
-find_other_at : (n m : ℕ) (f : Ticket → List Ticket) (u : Ticket) (ts : List Ticket) (b : Bool) → eqb u.number m ≡ b → (n ≡ m → ⊥) → Few (f u) → All (Same u) (f u)
+find_other_at : (n m : ℕ) (f : Ticket → List Ticket) (u : Ticket) (ts : List Ticket) (b : Bool) → eqb u.number m ≡ b → (n ≡ m → ⊥) → Few (f u) → AllByRecursion (Same u) (f u)
     → find (named n) (edit (named m) f ts) ≡ find (named n) ts
     → find (named n) (cond b (f u ++ ts) (u ∷ edit (named m) f ts)) ≡ find (named n) (u ∷ ts)
 find_other_at n m f u ts true e d few same ih =
@@ -166,7 +166,7 @@ find_other_at n m f u ts true e d few same ih =
 find_other_at n m f u ts false e d few same ih = ap (λ (o : Option Ticket). cond (eqb u.number n) (Some u) o) ih
 
 -- under another number stands what stood there
-pub find_other : (n m : ℕ) (f : Ticket → List Ticket) (ts : List Ticket) → (n ≡ m → ⊥) → ((t : Ticket) → Few (f t)) → ((t : Ticket) → All (Same t) (f t))
+pub find_other : (n m : ℕ) (f : Ticket → List Ticket) (ts : List Ticket) → (n ≡ m → ⊥) → ((t : Ticket) → Few (f t)) → ((t : Ticket) → AllByRecursion (Same t) (f t))
     → find (named n) (edit (named m) f ts) ≡ find (named n) ts
 find_other n m f [] d few same = refl
 find_other n m f (u ∷ ts) d few same = find_other_at n m f u ts (eqb u.number m) refl d (few u) (same u) (find_other n m f ts d few same)

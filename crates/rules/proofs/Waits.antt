@@ -1,6 +1,6 @@
 -- Waiting ends: over the history, the reports since an undecided booking was taken and its budget are at most the longest wait.
 use Rattle.std.proofs.Common.{◌≡◌, ℕ, suc, ◌+◌, ◌-◌, ◌<◌, ◌≤◌, Bool, true, false, cond, not, ◌&&◌, ◌||◌, eqb, leb, ◌⊎◌, List, [], ◌∷◌, ◌++◌, Some, sym, refl, ap, ◌∙◌, subst, inl, inr, arith}
-use Rattle.std.specs.List.{AllByRecursion as All}
+use Rattle.std.specs.List.{AllByRecursion}
 use Rattle.std.proofs.ByRecursion.{All-append}
 use Rattle.std.proofs.lemmas.Bool.{both_ways, eqb-true, eqb-false, eq-eqb, cases_lt, cases_eq, cases_Bool, false≢true}
 use Rattle.std.proofs.lemmas.Bool.Decides.{nat_tests}
@@ -36,7 +36,7 @@ pub record Waits (x : Rack) (n : ℕ) : Type 0 where
   pub who : Ticket
   pub found : find (named n) x.tickets ≡ Some who
   pub seeks : seeking who.phase ≡ true
-  pub calm : All (Calm x.sizes n) x.tickets
+  pub calm : AllByRecursion (Calm x.sizes n) x.tickets
   pub under : n < x.next
 
 -- how many numbers up to the lead ahead of n are not yet given out
@@ -97,7 +97,7 @@ module _ (x : Rack) (n : ℕ) where
 
   -- a call on another ticket
   calls_other : (handbacks : ℕ) (ss : List Slot) (t : Ticket) (f : Ticket → List Ticket) → Waits x n → (t.number ≡ n → ⊥)
-      → find (named t.number) x.tickets ≡ Some t → ((u : Ticket) → Few (f u)) → ((u : Ticket) → All (Same u) (f u)) → All (Calm x.sizes n) (f t)
+      → find (named t.number) x.tickets ≡ Some t → ((u : Ticket) → Few (f u)) → ((u : Ticket) → AllByRecursion (Same u) (f u)) → AllByRecursion (Calm x.sizes n) (f t)
       → Waits (changes x handbacks (edit (named t.number) f x.tickets) ss) n
   calls_other handbacks ss t f k d e few same c =
       record {
@@ -127,14 +127,14 @@ module _ (x : Rack) (n : ℕ) where
       elim (cases_lt (n + x.sizes.lead) t.number) [ inl l ↦ absurd (omega (arith, c l, sh.0)) | inr l ↦ l ]
 
   -- what becomes of a ticket that is not so far ahead may have marks
-  near_calm : (w : Ticket) (us : List Ticket) → w.number ≤ n + x.sizes.lead → All (Same w) us → All (Calm x.sizes n) us
+  near_calm : (w : Ticket) (us : List Ticket) → w.number ≤ n + x.sizes.lead → AllByRecursion (Same w) us → AllByRecursion (Calm x.sizes n) us
   near_calm w [] h a = tt
   near_calm w (u ∷ us) h a = ((λ l. let q = a.0.0 in absurd (omega arith)), near_calm w us h a.1)
 
-  withdrawn_calm : (t : Ticket) → Calm x.sizes n t → All (Calm x.sizes n) (withdrawn t)
+  withdrawn_calm : (t : Ticket) → Calm x.sizes n t → AllByRecursion (Calm x.sizes n) (withdrawn t)
   withdrawn_calm t h = at (eqb t.marks 0)
     where
-      at : (c : Bool) → All (Calm x.sizes n) (cond c [] (with_phase Closing t ∷ []))
+      at : (c : Bool) → AllByRecursion (Calm x.sizes n) (cond c [] (with_phase Closing t ∷ []))
       at true = tt
       at false = (h, tt)
 
@@ -144,7 +144,7 @@ module _ (x : Rack) (n : ℕ) where
   near s sd k f e =
       let q = who_number k in
       let c = worked_near x sd s k.who f e (who_in k) (seeking_soft k.who.phase k.seeks)
-      (subst (λ (j : ℕ). All (Calm x.sizes j) x.tickets) (sym q) k.calm) in
+      (subst (λ (j : ℕ). AllByRecursion (Calm x.sizes j) x.tickets) (sym q) k.calm) in
       omega arith
 
   -- an action of ticket w that does not decide n
@@ -158,7 +158,7 @@ module _ (x : Rack) (n : ℕ) where
       let own = eq-eqb w.number n o in
       let s : seeking w.phase ≡ true = subst (λ (u : Ticket). seeking u.phase ≡ true) (is_who w k f o) k.seeks in
       let v = stays handbacks w a s (rw own at g) (rw own at d) in
-      let same : All (Same w) (v.0 ∷ []) = subst (λ (us : List Ticket). All (Same w) us) v.1 (after_same handbacks a w) in
+      let same : AllByRecursion (Same w) (v.0 ∷ []) = subst (λ (us : List Ticket). AllByRecursion (Same w) us) v.1 (after_same handbacks a w) in
       record {
         who = v.0;
         found = subst (λ (j : ℕ). find (named n) (edit (named j) (after handbacks a) x.tickets) ≡ Some v.0) (sym o)
@@ -223,7 +223,7 @@ waits_on x _ _ n sd k g d w (Effect.backs t f e) =
     )
 
 -- a booking that is taken waits, and no ticket is ahead of it
-none_ahead : (z : Sizes) (lo n : ℕ) (ts : List Ticket) → All (Between lo n) ts → All (Calm z n) ts
+none_ahead : (z : Sizes) (lo n : ℕ) (ts : List Ticket) → AllByRecursion (Between lo n) ts → AllByRecursion (Calm z n) ts
 none_ahead z lo n [] a = tt
 none_ahead z lo n (t ∷ ts) a = ((λ l. let k = a.0.1 in absurd (omega arith)), none_ahead z lo n ts a.1)
 

@@ -1,7 +1,7 @@
 -- Which ticket a step works on: rule 2 always ends at a ticket that is not blocked, and comes by none twice.
 use Rattle.std.proofs.Common.{◌≡◌, ℕ, zero, suc, ◌+◌, ◌-◌, ◌<◌, ◌≤◌, Bool, true, false, cond, not, ◌&&◌, ltb, leb, ◌⊎◌, List, [], ◌∷◌, Some, None, Option, sym, refl, ap, ◌∙◌, subst, inl, inr, arith}
 use Rattle.std.proofs.lemmas.Bool.{eqb-true, leb-true, leb-false, ltb-true, ltb-false, lt-ltb, le-ltb, and_parts, and_from, not-true, cases_lt}
-use Rattle.std.specs.List.{AllByRecursion as All}
+use Rattle.std.specs.List.{AllByRecursion}
 use Rattle.rules.specs.declared.ticket.Ticket.{Ticket}
 use Rattle.rules.specs.declared.ticket.Phase.{Phase}
 use Rattle.rules.specs.declared.ticket.Phase.TheVariants.{Forward, Backing, Without, Granted, Out, Closing}
@@ -41,7 +41,7 @@ soft_at : (c : ℕ) (t : Ticket) (ts : List Ticket) → (unit (marks_in c t) ≤
 soft_at c t ts (inl h) ih l = let r = ih (omega arith) in (r.0, inr r.1, r.2)
 soft_at c t ts (inr h) ih l = (t, inl refl, h)
 
-soft_mark : (z : Sizes) (n c : ℕ) (ts : List Ticket) → All (Fit z n) ts → booked_in c ts < load c ts → (u : Ticket) × In u ts × ((soft u.phase && marks_in c u) ≡ true)
+soft_mark : (z : Sizes) (n c : ℕ) (ts : List Ticket) → AllByRecursion (Fit z n) ts → booked_in c ts < load c ts → (u : Ticket) × In u ts × ((soft u.phase && marks_in c u) ≡ true)
 soft_mark z n c [] a l = absurd (omega arith)
 soft_mark z n c (t ∷ ts) a l = soft_at c t ts (soft_or z c t t.phase (marks_in c t) a.0.shape refl) (λ k. soft_mark z n c ts a.1 k) l
 
@@ -166,7 +166,7 @@ module _ (x : Rack) (sd : Sound x) where
 
     -- while b is soft, the step works on no ticket that is more than the lead ahead of b, if those have no mark
     near_all : (b : Ticket) → In b x.tickets → soft b.phase ≡ true
-        → All (λ t. b.number + x.sizes.lead < t.number → t.marks ≡ 0) x.tickets → (worked x s).number ≤ b.number + x.sizes.lead
+        → AllByRecursion (λ t. b.number + x.sizes.lead < t.number → t.marks ≡ 0) x.tickets → (worked x s).number ≤ b.number + x.sizes.lead
     near_all b i eb calm =
         let l = first_lowest x.first x.next (λ t. soft t.phase) x.tickets old.0 b sd.rising old.1 i eb in
         let lead : (led x s).number ≤ b.number + x.sizes.lead =
@@ -182,12 +182,12 @@ module _ (x : Rack) (sd : Sound x) where
   abbrev Beyond : ℕ → Ticket → Type 0
   Beyond a u = In u x.tickets × (a ≤ ahead u)
 
-  beyond_at : (n a : ℕ) (t : Ticket) (b : Bool) → blocked x t ≡ b → Beyond a t → (blocked x t ≡ true → All (Beyond a) (walk n x (passed_to x t)))
-      → All (Beyond a) (elim b [ true ↦ t ∷ walk n x (passed_to x t) | false ↦ t ∷ [] ])
+  beyond_at : (n a : ℕ) (t : Ticket) (b : Bool) → blocked x t ≡ b → Beyond a t → (blocked x t ≡ true → AllByRecursion (Beyond a) (walk n x (passed_to x t)))
+      → AllByRecursion (Beyond a) (elim b [ true ↦ t ∷ walk n x (passed_to x t) | false ↦ t ∷ [] ])
   beyond_at n a t true e h k = (h, k e)
   beyond_at n a t false e h k = (h, tt)
 
-  beyond : (n a : ℕ) (t : Ticket) → Beyond a t → All (Beyond a) (walk n x t)
+  beyond : (n a : ℕ) (t : Ticket) → Beyond a t → AllByRecursion (Beyond a) (walk n x t)
   beyond zero a t h = (h, tt)
   beyond (suc n) a t h =
       beyond_at n a t (blocked x t) refl h (λ e. let p = passes t e in let k = p.further in let l = h.1 in beyond n a (passed_to x t) (p.inside, omega arith))
@@ -204,11 +204,11 @@ module _ (x : Rack) (sd : Sound x) where
       let l = h.1 in absurd (omega arith)
   none_again_at t u us false e i h k = omega arith
 
-  none_again : (t : Ticket) (us : List Ticket) → In t x.tickets → All (Beyond (suc (ahead t))) us → count_of (named t.number) us ≡ 0
+  none_again : (t : Ticket) (us : List Ticket) → In t x.tickets → AllByRecursion (Beyond (suc (ahead t))) us → count_of (named t.number) us ≡ 0
   none_again t [] i a = refl
   none_again t (u ∷ us) i a = none_again_at t u us (named t.number u) refl i a.0 (none_again t us i a.1)
 
-  once_here : (n : ℕ) (t : Ticket) (us : List Ticket) (b : Bool) → named n t ≡ b → In t x.tickets → All (Beyond (suc (ahead t))) us → count_of (named n) us ≤ 1
+  once_here : (n : ℕ) (t : Ticket) (us : List Ticket) (b : Bool) → named n t ≡ b → In t x.tickets → AllByRecursion (Beyond (suc (ahead t))) us → count_of (named n) us ≤ 1
       → unit b + count_of (named n) us ≤ 1
   once_here n t us true e i a k =
       let z = none_again t us i a in
@@ -248,5 +248,5 @@ module _ (x : Rack) (sd : Sound x) where
       leb-true x.sizes.rows (booked_in (ahead w) x.tickets) (sym (sees_wall x sd (ahead w) inside) ∙ wall_at w (is_wall x (ahead w)) refl k.free f a b v)
 
 pub worked_near : (x : Rack) → Sound x → (s b : Ticket) → find (named s.number) x.tickets ≡ Some s → soft s.phase ≡ true → In b x.tickets → soft b.phase ≡ true
-    → All (λ t. b.number + x.sizes.lead < t.number → t.marks ≡ 0) x.tickets → (worked x s).number ≤ b.number + x.sizes.lead
+    → AllByRecursion (λ t. b.number + x.sizes.lead < t.number → t.marks ≡ 0) x.tickets → (worked x s).number ≤ b.number + x.sizes.lead
 worked_near x sd s b f e i eb calm = near_all x sd s f e b i eb calm

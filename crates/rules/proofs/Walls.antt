@@ -1,6 +1,6 @@
 -- A seeking ticket that has seen the last hand-back has passed by columns that hold a wall each: what is booked stays until a hand-back.
 use Rattle.std.proofs.Common.{◌≡◌, ℕ, suc, ◌+◌, ◌<◌, ◌≤◌, Bool, true, false, cond, ◌&&◌, eqb, ◌⊎◌, List, [], ◌∷◌, Some, sym, refl, ◌∙◌, subst, inl, inr, arith}
-use Rattle.std.specs.List.{AllByRecursion as All}
+use Rattle.std.specs.List.{AllByRecursion}
 use Rattle.std.proofs.ByRecursion.{All-push, All-weaker}
 use Rattle.std.proofs.lemmas.Bool.{ltb-false, cases_lt}
 use Rattle.std.proofs.lemmas.Bool.Decides.{nat_tests}
@@ -115,7 +115,7 @@ abbrev Onward : Ticket → ℕ → Ticket → Type 0
 Onward t hi u = (u.request ≡ t.request) × ((up_to u.phase u ≤ t.request.start) ⊎ ((u.seen ≡ t.seen) × (up_to u.phase u ≤ hi)))
 
 onward : (z : Sizes) (n : ℕ) (vacant : Bool) (t : Ticket) → soft t.phase ≡ true
-    → All (Onward t (limit (duty z n vacant t) t)) (after n (duty z n vacant t) t)
+    → AllByRecursion (Onward t (limit (duty z n vacant t) t)) (after n (duty z n vacant t) t)
 onward z n vacant t e = grind (arith, nat_tests)
 
 passed_onward : (z : Sizes) (n : ℕ) (ts : List Ticket) (t : Ticket) (hi : ℕ) (u : Ticket)
@@ -167,7 +167,7 @@ module _ (x : Rack) (sd : Sound x) (w : Ticket) (k : Works x w) where
       (subst (λ (s : Phase). Walled x.sizes x.tickets w.request (up_to s w)) y.0 (p e))
 
   passed_after : Passed x.sizes x.handbacks x.tickets w
-      → All (Passed x.sizes x.handbacks x.tickets) (after x.handbacks (action_of x w) w)
+      → AllByRecursion (Passed x.sizes x.handbacks x.tickets) (after x.handbacks (action_of x w) w)
   passed_after p =
       let vacant = has_vacant x (ahead w) in
       let y = says x.sizes x.handbacks vacant w k.is_soft in
@@ -177,21 +177,21 @@ module _ (x : Rack) (sd : Sound x) (w : Ticket) (k : Works x w) where
 
 -- of all tickets of a rack
 abbrev pub AllPassed : Rack → Type 0
-AllPassed x = All (Passed x.sizes x.handbacks x.tickets) x.tickets
+AllPassed x = AllByRecursion (Passed x.sizes x.handbacks x.tickets) x.tickets
 
-passed_grown : (z : Sizes) (n : ℕ) (ts us : List Ticket) → ((c : ℕ) → booked_in c ts ≤ booked_in c us) → All (Passed z n ts) us → All (Passed z n us) us
+passed_grown : (z : Sizes) (n : ℕ) (ts us : List Ticket) → ((c : ℕ) → booked_in c ts ≤ booked_in c us) → AllByRecursion (Passed z n ts) us → AllByRecursion (Passed z n us) us
 passed_grown z n ts us m a = All-weaker (Passed z n ts) (Passed z n us) (λ t p. passed_more z n ts us t m p) us a
 
 none_passed : (z : Sizes) (ts : List Ticket) (q : Request) → Walled z ts q 0
 none_passed z ts q g a b = absurd (omega arith)
 
-withdrawn_passed : (z : Sizes) (n : ℕ) (ts : List Ticket) (t : Ticket) (b : Bool) → All (Passed z n ts) (cond b [] (with_phase Closing t ∷ []))
+withdrawn_passed : (z : Sizes) (n : ℕ) (ts : List Ticket) (t : Ticket) (b : Bool) → AllByRecursion (Passed z n ts) (cond b [] (with_phase Closing t ∷ []))
 withdrawn_passed z n ts t true = tt
 withdrawn_passed z n ts t false = ((λ _. none_passed z ts t.request), tt)
 
 -- a call that changes ticket t, and leaves what is booked
 walls_changed : (x : Rack) (t : Ticket) (f : Ticket → List Ticket) → find (named t.number) x.tickets ≡ Some t
-    → ((c : ℕ) → booked_in c (changed x t f).tickets ≡ booked_in c x.tickets) → All (Passed x.sizes x.handbacks x.tickets) (f t)
+    → ((c : ℕ) → booked_in c (changed x t f).tickets ≡ booked_in c x.tickets) → AllByRecursion (Passed x.sizes x.handbacks x.tickets) (f t)
     → AllPassed x → AllPassed (changed x t f)
 walls_changed x t f i same a p =
     passed_grown x.sizes x.handbacks x.tickets (changed x t f).tickets (λ c. let k = same c in omega arith)

@@ -1,6 +1,6 @@
 -- The worked cases: short lists of calls from a rack never opened, each with its answer, and picks of the three choosers.
 use Rattle.std.specs.Prelude.{◌≡◌, ℕ, List, [], ◌∷◌, map, Some, None, Ok, Err, Option, Result}
-use Rattle.std.specs.List.{AllByRecursion as All}
+use Rattle.std.specs.List.{AllByRecursion}
 use Rattle.rules.specs.declared.span.Span.{Span}
 use Rattle.rules.specs.declared.ticket.Stage.{Stage}
 use Rattle.rules.specs.declared.ticket.Stage.TheVariants as stage
@@ -303,4 +303,4 @@ cases =
 
 -- all of them come out
 abbrev pub CasesComeOut : Type 0
-CasesComeOut = All ComesOut cases
+CasesComeOut = AllByRecursion ComesOut cases

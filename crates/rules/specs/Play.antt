@@ -1,6 +1,6 @@
 -- Lists of calls, each with a chooser of its own: what they tell, and the rack that they leave.
 use Rattle.std.specs.Prelude.{◌≡◌, ℕ, ◌≤◌, ◌⊎◌, List, [], ◌∷◌, ◌++◌, length, Ok, Err, Result, ◌≢◌}
-use Rattle.std.specs.List.{AllByRecursion as All}
+use Rattle.std.specs.List.{AllByRecursion}
 use Rattle.rules.specs.declared.ticket.Request.{Request}
 use Rattle.rules.specs.declared.ticket.Stage.{Stage}
 use Rattle.rules.specs.declared.ticket.Stage.TheVariants as stage
@@ -61,7 +61,7 @@ played p (t ∷ ts) = played (turned p t.choose t.call) ts
 -- whatever list of calls is made on a new rack, with another chooser at each: its history leads to the rack that it leaves, and all laws hold
 abbrev pub EveryListOfCallsHolds : Type 0
 EveryListOfCallsHolds =
-    (x : Rack) → New x → (ts : List Turn) → All (λ t. Lawful (recalling t.choose)) ts
+    (x : Rack) → New x → (ts : List Turn) → AllByRecursion (λ t. Lawful (recalling t.choose)) ts
     → let p = played (record { history = []; rack = x }) ts in Reaches p.history p.rack × Holds p.history p.rack
 
 -- a drive counts its reports: at most the budget, and at most the room

@@ -1,6 +1,6 @@
 -- What holds of a rack alone, whatever calls led to it: the shape of its tickets, and that the slots agree with them.
 use Rattle.std.specs.Prelude.{◌≡◌, ℕ, suc, ◌+◌, ◌*◌, ◌<◌, ◌≤◌, Bool, true, false, ◌&&◌, ◌⊎◌, List, [], ◌∷◌, length}
-use Rattle.std.specs.List.{AllByRecursion as All}
+use Rattle.std.specs.List.{AllByRecursion}
 use Rattle.rules.specs.declared.span.Span.{Span}
 use Rattle.rules.specs.declared.ticket.Ticket.{Ticket}
 use Rattle.rules.specs.declared.ticket.Phase.{Phase}
@@ -76,7 +76,7 @@ pub record Sound (x : Rack) : Type 0 where
   pub first_some : 1 ≤ x.first
   pub numbers : x.next ≤ suc last_number
   pub rising : Rising x.first x.next x.tickets
-  pub fits : All (Fit x.sizes x.handbacks) x.tickets
+  pub fits : AllByRecursion (Fit x.sizes x.handbacks) x.tickets
   pub few : length x.tickets ≤ x.sizes.places
   pub counted : x.first + x.handbacks + count_of (λ t. live t.phase) x.tickets ≤ x.next
   pub agree : Agree x

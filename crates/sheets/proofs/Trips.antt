@@ -1,6 +1,6 @@
 -- What is written of a board reads as its grants.
 use Rattle.std.proofs.Common.{◌≡◌, ℕ, suc, ◌+◌, ◌^◌, ◌<◌, ◌≤◌, Bool, true, false, cond, List, [], ◌∷◌, length, Ok, Err, codes, decimal, Result, refl, ap, ◌∙◌, arith}
-use Rattle.std.specs.List.{AllByRecursion as All}
+use Rattle.std.specs.List.{AllByRecursion}
 use Rattle.std.proofs.lemmas.Fmt.{length-decimal-le}
 use Rattle.std.proofs.lemmas.Bool.{and_from, le-leb, cond-true}
 use Rattle.std.proofs.lemmas.Bool.Decides.{nat_tests}
@@ -115,7 +115,7 @@ out_inside z t Closing e s = let w : ◌≡◌ {A = ℕ} 0 1 = cc in absurd (ome
 
 -- the grants of tickets in rising order, on a board within its limits
 module _ (z : Sizes) (handbacks hi : ℕ) (wide : z.columns ≤ 256) (top : hi ≤ 2000000001) where
-  out_lawful : (lo last : ℕ) (ts : List Ticket) → last < lo → Rising lo hi ts → All (Fit z handbacks) ts → Lawful last (out_among ts)
+  out_lawful : (lo last : ℕ) (ts : List Ticket) → last < lo → Rising lo hi ts → AllByRecursion (Fit z handbacks) ts → Lawful last (out_among ts)
   out_lawful lo last [] l r f = tt
   out_lawful lo last (t ∷ ts) l r f =
       let below = rising_top (suc t.number) hi ts r.1 in
