@@ -1,5 +1,5 @@
 #!/usr/bin/env python3
-"""Writes the sample morning that the gate runs: crates/rackboard/stdin, and with the reference program crates/rackboard/stdout.
+"""Writes the sample morning that the gate runs: crates/rackboard_next/stdin, and with the reference program crates/rackboard_next/stdout.
 
     bench/sample.py              writes both files
     bench/sample.py --check      writes nothing, says whether the files are what it would write
@@ -13,7 +13,7 @@ import subprocess
 import sys
 
 BENCH = pathlib.Path(__file__).resolve().parent
-SAMPLE = BENCH.parent / "crates" / "rackboard"
+SAMPLE = BENCH.parent / "crates" / "rackboard_next"
 REFERENCE = BENCH / "target" / "release" / "reference"
 
 pieces = []   # the input, line by line, each with its LF
