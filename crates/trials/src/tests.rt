@@ -5,6 +5,7 @@ mod chance;
 mod choosers;
 mod ledger;
 mod lines;
+mod prefixed;
 mod racks;
 mod reading;
 mod refusals;

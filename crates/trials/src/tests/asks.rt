@@ -8,7 +8,7 @@ use rules::span::Span;
 use rules::ticket::{Request, Stage, Ticket};
 use std::alloc::{AllocError, Global};
 use std::process::Abort;
-use std::test::*;
+use std::test::Fail;
 
 /// A call with its figures. A drive has a budget and so many places in its journal; a seen asks the
 /// list of tickets for what the ticket's search goes by.

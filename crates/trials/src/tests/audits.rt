@@ -10,7 +10,7 @@ use rules::report::{Action, Report};
 use rules::ticket::Request;
 use std::alloc::{AllocError, Global};
 use std::process::Abort;
-use std::test::*;
+use std::test::Fail;
 
 // What is counted of the answers.
 #[derive(Drop)]

@@ -1,5 +1,6 @@
 //! Lines of the console with the answers expected.
 use crate::tests::asks::no_report;
+use crate::tests::prefixed::Prefixed;
 use board::board::Board;
 use board::lowest::Lowest;
 use console_next::answer::answer;
@@ -9,18 +10,17 @@ use rules::refusal::Refusal;
 use rules::report::Report;
 use std::alloc::Global;
 use std::process::Abort;
-use std::test::*;
+use std::test::Fail;
 use text::fault::{Fault, LineFault};
 use text::page::{write_end, write_fault, write_no};
 
 // A page holds the text, and behind it what it held before.
-fn holds(rt: &impl Abort, page: &[u8], text: &str) -> Result<(), Fail> {
+fn holds(rt: &impl Abort, page: &[u8], text: &str) {
     let count = text.len();
     assert_eq!(rt; page.get(0..count), Some(text.as_bytes()));
     for (i, byte) in page.iter().enumerate() {
         assert!(rt; i < count || *byte == b'#', "byte {i}");
     }
-    Ok(())
 }
 
 // Hands the session one line after the other; each answer is as the table says.
@@ -35,7 +35,7 @@ fn converse(
         let mut page = [b'#'; 70];
         let count = session.handle(reports, faults, Some(line.as_bytes()), &mut page)?;
         assert_eq!(rt; count, text.len(), "line {i}");
-        holds(rt, &page, *text).note(format_args!("line {i}"))?;
+        holds(&Prefixed::new(rt, format_args!("line {i}")), &page, *text);
     }
     Ok(())
 }
@@ -172,9 +172,10 @@ fn faulty_lines(rt: HostRuntime) -> Result<(), Fail> {
 // What a page too short, a line too long to keep and a full journal leave behind.
 #[test]
 fn pages_and_journals(rt: HostRuntime) -> Result<(), Fail> {
-    short_pages(&rt, Session::new(Board::new(rt.alloc())?, Lowest))?;
-    full_journal(&rt, Board::new(rt.alloc())?)?;
-    closing_lines(&rt)
+    short_pages(&rt, Session::new(Board::new(rt.alloc())?, Lowest));
+    full_journal(&rt, Board::new(rt.alloc())?);
+    closing_lines(&rt);
+    Ok(())
 }
 
 fn noted(line: u64, refusal: Refusal, field: u32) -> LineFault {
@@ -185,7 +186,7 @@ fn noted(line: u64, refusal: Refusal, field: u32) -> LineFault {
 }
 
 // 63 bytes are too few, whatever the line is; then nothing is counted.
-fn short_pages(rt: &impl Abort, mut session: Session<Lowest>) -> Result<(), Fail> {
+fn short_pages(rt: &impl Abort, mut session: Session<Lowest>) {
     let mut report_places = [no_report(); 1];
     let mut fault_places = [LineFault::blank(); 2];
     let mut reports = Journal::new(&mut report_places);
@@ -209,18 +210,18 @@ fn short_pages(rt: &impl Abort, mut session: Session<Lowest>) -> Result<(), Fail
         session.handle(&mut reports, &mut faults, None, &mut page[0..63]),
         short
     );
-    holds(rt, &page, "")?;
+    holds(rt, &page, "");
     assert_eq!(rt; (session.lines, session.refusals), (0, 0));
     assert_eq!(rt;
         session.handle(&mut reports, &mut faults, Some(b"book\t0\t1\n"), &mut page),
         Ok(5)
     );
-    holds(rt, &page, "ok\t1\n")?;
+    holds(rt, &page, "ok\t1\n");
     assert_eq!(rt;
         session.handle(&mut reports, &mut faults, None, &mut page),
         Ok(13)
     );
-    holds(rt, &page, "no\tline\t11\t0\n")?;
+    holds(rt, &page, "no\tline\t11\t0\n");
     assert_eq!(rt;
         session.handle(&mut reports, &mut faults, Some(b"book\t7\n"), &mut page),
         Ok(12)
@@ -232,9 +233,8 @@ fn short_pages(rt: &impl Abort, mut session: Session<Lowest>) -> Result<(), Fail
     assert_eq!(rt; (session.lines, session.refusals), (4, 3));
     assert_eq!(rt;
         faults.entries(),
-        &[noted(2, Refusal::Line, 0), noted(3, Refusal::Fields, 2)]
+        [noted(2, Refusal::Line, 0), noted(3, Refusal::Fields, 2)].as_slice()
     );
-    Ok(())
 }
 
 // The answer to one line, on a page of its own.
@@ -244,13 +244,13 @@ fn answered(
     journal: &mut Journal<Report>,
     line: &str,
     text: &str,
-) -> Result<(), Fail> {
+) {
     let mut page = [b'#'; 64];
     assert_eq!(rt;
         answer(board, &mut Lowest, journal, line.as_bytes(), &mut page),
         Ok(text.len())
     );
-    holds(rt, &page, text)
+    holds(rt, &page, text);
 }
 
 // The fault of a line, which leaves page and journal as they were.
@@ -260,7 +260,7 @@ fn faulted(
     journal: &mut Journal<Report>,
     line: &str,
     refusal: Refusal,
-) -> Result<(), Fail> {
+) {
     let mut page = [b'#'; 64];
     let before = journal.len();
     let fault = Err(Fault { refusal, field: 0 });
@@ -269,10 +269,10 @@ fn faulted(
         fault
     );
     assert_eq!(rt; journal.len(), before);
-    holds(rt, &page, "")
+    holds(rt, &page, "");
 }
 
-fn full_journal(rt: &impl Abort, mut board: Board) -> Result<(), Fail> {
+fn full_journal(rt: &impl Abort, mut board: Board) {
     let mut places = [no_report(); 2];
     let mut journal = Journal::new(&mut places);
     answered(
@@ -281,38 +281,38 @@ fn full_journal(rt: &impl Abort, mut board: Board) -> Result<(), Fail> {
         &mut journal,
         "open\t1\t9\t1\t0\t1\n",
         "ok\n",
-    )?;
-    answered(rt, &mut board, &mut journal, "book\t0\t9\n", "ok\t1\n")?;
+    );
+    answered(rt, &mut board, &mut journal, "book\t0\t9\n", "ok\t1\n");
     answered(
         rt,
         &mut board,
         &mut journal,
         "drive\t1\t1\n",
         "ok\t1\tseeking\n",
-    )?;
+    );
     answered(
         rt,
         &mut board,
         &mut journal,
         "drive\t1\t9\n",
         "ok\t1\tseeking\n",
-    )?;
-    faulted(rt, &mut board, &mut journal, "drive\t1\t9\n", Refusal::Full)?;
-    faulted(rt, &mut board, &mut journal, "drive\t1\t0\n", Refusal::Full)?;
+    );
+    faulted(rt, &mut board, &mut journal, "drive\t1\t9\n", Refusal::Full);
+    faulted(rt, &mut board, &mut journal, "drive\t1\t0\n", Refusal::Full);
     faulted(
         rt,
         &mut board,
         &mut journal,
         "drive\t2\t0\n",
         Refusal::Unknown,
-    )?;
+    );
     answered(
         rt,
         &mut board,
         &mut journal,
         "step\t1\n",
         "ok\t1\t5\t2\t1\n",
-    )?;
+    );
     assert_eq!(rt; journal.len(), 2);
     journal.clear();
     answered(
@@ -321,28 +321,28 @@ fn full_journal(rt: &impl Abort, mut board: Board) -> Result<(), Fail> {
         &mut journal,
         "drive\t1\t9\n",
         "ok\t2\tseeking\n",
-    )
+    );
 }
 
 // The writing calls at 63 and 64 bytes, with the largest figures.
-fn closing_lines(rt: &impl Abort) -> Result<(), Fail> {
+fn closing_lines(rt: &impl Abort) {
     let mut page = [b'#'; 64];
     let fault = Fault::new(Refusal::Figure, 81, 81);
     let short = Err(Fault::new(Refusal::Page, 0, 0));
     assert_eq!(rt; write_no(&mut page[0..63], fault), short);
     assert_eq!(rt; write_fault(&mut page[0..63], 1, fault), short);
     assert_eq!(rt; write_end(&mut page[0..63], 1, 0), short);
-    holds(rt, &page, "")?;
+    holds(rt, &page, "");
     assert_eq!(rt; write_no(&mut page, fault), Ok(14));
-    holds(rt, &page, "no\tline\t10\t81\n")?;
+    holds(rt, &page, "no\tline\t10\t81\n");
     assert_eq!(rt; write_end(&mut page, 7, 2), Ok(8));
-    holds(rt, &page, "end\t7\t2\n10\t81\n")?;
+    holds(rt, &page, "end\t7\t2\n10\t81\n");
     let mut fresh = [b'#'; 64];
     assert_eq!(rt;
         write_fault(&mut fresh, 18446744073709551615, fault),
         Ok(38)
     );
-    holds(rt, &fresh, "fault\t18446744073709551615\tline\t10\t81\n")?;
+    holds(rt, &fresh, "fault\t18446744073709551615\tline\t10\t81\n");
     assert_eq!(rt;
         write_end(&mut fresh, 18446744073709551615, 18446744073709551615),
         Ok(46)
@@ -351,5 +351,5 @@ fn closing_lines(rt: &impl Abort) -> Result<(), Fail> {
         rt,
         &fresh,
         "end\t18446744073709551615\t18446744073709551615\n",
-    )
+    );
 }

@@ -1,10 +1,11 @@
 //! The racks on which lists of calls are drawn.
 use crate::tests::ledger::zeros;
+use crate::tests::prefixed::Prefixed;
 use crate::tests::reading::Which;
 use crate::tests::runs::{Rack, Trial};
 use std::alloc::Global;
 use std::process::Abort;
-use std::test::*;
+use std::test::Fail;
 
 // The chooser of a run: one of the three at every call, or another one at each.
 fn which(mode: u32, drawn: u32) -> Which {
@@ -17,19 +18,21 @@ fn which(mode: u32, drawn: u32) -> Which {
 }
 
 // As many calls as the rack asks for, and a look at everything now and then.
-fn run(heap: Global, trial: &mut Trial, mode: u32) -> Result<(), Fail> {
+fn run(rt: &impl Abort, heap: Global, trial: &mut Trial, mode: u32) -> Result<(), Fail> {
     for call in 0..trial.rack.calls {
         let drawn = trial.chance.below(3);
-        trial
-            .call(which(mode, drawn))
-            .note(format_args!("call {call}, mode {mode}"))?;
+        trial.call(
+            &Prefixed::new(rt, format_args!("call {call}, mode {mode}")),
+            which(mode, drawn),
+        )?;
         if call % 16 == 15 {
-            trial
-                .survey(heap)
-                .note(format_args!("after call {call}, mode {mode}"))?;
+            trial.survey(
+                &Prefixed::new(rt, format_args!("after call {call}, mode {mode}")),
+                heap,
+            )?;
         }
     }
-    trial.survey(heap)
+    trial.survey(rt, heap)
 }
 
 // Adds what a run has told to the sums over all runs: reports of each action, and hand-backs.
@@ -44,21 +47,31 @@ fn add_up(sums: &mut Vec<u32>, trial: &Trial) {
     }
 }
 
-fn all_modes(heap: Global, rack: Rack, seed: u32, sums: &mut Vec<u32>) -> Result<(), Fail> {
+fn all_modes(
+    rt: &impl Abort,
+    heap: Global,
+    rack: Rack,
+    seed: u32,
+    sums: &mut Vec<u32>,
+) -> Result<(), Fail> {
     for mode in 0..4u32 {
         let mut trial = Trial::new(heap, rack, seed.wrapping_mul(4).wrapping_add(mode))?;
-        run(heap, &mut trial, mode).note(format_args!("seed {seed}, {rack:?}"))?;
+        run(
+            &Prefixed::new(rt, format_args!("seed {seed}, {rack:?}")),
+            heap,
+            &mut trial,
+            mode,
+        )?;
         add_up(sums, &trial);
     }
     Ok(())
 }
 
 // Each action, and handing back, has come often enough for the runs to say something.
-fn enough(rt: &impl Abort, sums: &Vec<u32>, least: u32) -> Result<(), Fail> {
+fn enough(rt: &impl Abort, sums: &Vec<u32>, least: u32) {
     for sum in sums.iter() {
         assert!(rt; *sum >= least, "{sums:?}");
     }
-    Ok(())
 }
 
 // One of the 675 small racks.
@@ -82,9 +95,16 @@ fn small(code: u32) -> Rack {
 fn small_racks(rt: HostRuntime) -> Result<(), Fail> {
     let mut sums = zeros(rt.alloc(), 7)?;
     for code in 0..675u32 {
-        all_modes(rt.alloc(), small(code), code.wrapping_add(77), &mut sums)?;
+        all_modes(
+            &rt,
+            rt.alloc(),
+            small(code),
+            code.wrapping_add(77),
+            &mut sums,
+        )?;
     }
-    enough(&rt, &sums, 10000)
+    enough(&rt, &sums, 10000);
+    Ok(())
 }
 
 fn full(lead: u32, first: u32, base: u32, longest: u32, newest: bool) -> Rack {
@@ -116,11 +136,13 @@ fn full_racks(rt: HostRuntime) -> Result<(), Fail> {
     let mut sums = zeros(rt.alloc(), 7)?;
     for (seed, rack) in racks.iter().enumerate() {
         all_modes(
+            &rt,
             rt.alloc(),
             *rack,
             (seed as u32).wrapping_add(900),
             &mut sums,
         )?;
     }
-    enough(&rt, &sums, 1000)
+    enough(&rt, &sums, 1000);
+    Ok(())
 }

@@ -1,7 +1,8 @@
 //! Reports held against the slow ledger.
 use crate::tests::ledger::{Kind, Ledger};
 use rules::report::{Action, Report};
-use std::test::*;
+use std::process::Abort;
+use std::test::Fail;
 
 /// Which chooser a call is given.
 #[derive(Clone, Copy, PartialEq, Eq, Debug)]
@@ -60,57 +61,54 @@ impl Ledger {
     }
 
     // A vacant slot of the board gets a mark, in the chooser's row.
-    fn marked(&mut self, which: Which, report: Report) -> Result<(), Fail> {
-        let mut booking = self.booking(report.number).ok_or("no such booking")?;
-        assert!(report.column < self.columns);
-        assert_eq!(booking.kind, Kind::Undecided);
-        assert_eq!(self.row_for(which, report), Some(report.row));
-        assert_eq!(self.owner(report.column, report.row), 0);
-        assert_eq!(self.marks_of(report.number, report.column), 0);
+    fn marked(&mut self, rt: &impl Abort, which: Which, report: Report) {
+        let mut booking = self.booking(report.number).expect(rt, "no such booking");
+        assert!(rt; report.column < self.columns);
+        assert_eq!(rt; booking.kind, Kind::Undecided);
+        assert_eq!(rt; self.row_for(which, report), Some(report.row));
+        assert_eq!(rt; self.owner(report.column, report.row), 0);
+        assert_eq!(rt; self.marks_of(report.number, report.column), 0);
         self.own(report.column, report.row, report.number);
         if which == Which::Evening {
             self.count_pick(report.row);
         }
         booking.marks = booking.marks.wrapping_add(1);
         self.put(booking);
-        Ok(())
     }
 
     // The number's own mark goes; it has none further to the right.
-    fn wiped(&mut self, report: Report) -> Result<(), Fail> {
-        let mut booking = self.booking(report.number).ok_or("no such booking")?;
-        assert!(report.row > 0);
-        assert_eq!(self.owner(report.column, report.row), report.number);
-        assert_eq!(
+    fn wiped(&mut self, rt: &impl Abort, report: Report) {
+        let mut booking = self.booking(report.number).expect(rt, "no such booking");
+        assert!(rt; report.row > 0);
+        assert_eq!(rt; self.owner(report.column, report.row), report.number);
+        assert_eq!(rt;
             self.row_of(report.number, report.column.wrapping_add(1)),
             None
         );
-        assert!(booking.kind != Kind::Standing && booking.kind != Kind::Without);
+        assert!(rt; booking.kind != Kind::Standing && booking.kind != Kind::Without);
         self.own(report.column, report.row, 0);
         booking.marks = booking.marks.wrapping_sub(1);
         self.put(booking);
-        Ok(())
     }
 
     // One mark in each column of the window.
-    fn covers(&self, number: u32, first: u32, length: u32) -> Result<(), Fail> {
+    fn covers(&self, rt: &impl Abort, number: u32, first: u32, length: u32) {
         for column in first..first.wrapping_add(length) {
-            assert_eq!(self.marks_of(number, column), 1);
+            assert_eq!(rt; self.marks_of(number, column), 1);
         }
-        Ok(())
     }
 
     // A grant is the ledger's next answer.
-    fn granted(&mut self, report: Report) -> Result<(), Fail> {
-        let mut booking = self.booking(report.number).ok_or("no such booking")?;
-        assert_eq!(booking.kind, Kind::Undecided);
-        assert_eq!(report.row, 0);
-        assert_eq!(
+    fn granted(&mut self, rt: &impl Abort, report: Report) -> Result<(), Fail> {
+        let mut booking = self.booking(report.number).expect(rt, "no such booking");
+        assert_eq!(rt; booking.kind, Kind::Undecided);
+        assert_eq!(rt; report.row, 0);
+        assert_eq!(rt;
             self.least(booking.start, booking.length),
             Some(report.column)
         );
-        assert_eq!(booking.marks, booking.length);
-        self.covers(report.number, report.column, booking.length)?;
+        assert_eq!(rt; booking.marks, booking.length);
+        self.covers(rt, report.number, report.column, booking.length);
         self.stand(report.number, report.column, booking.length)?;
         booking.kind = Kind::Standing;
         booking.first = report.column;
@@ -119,47 +117,46 @@ impl Ledger {
     }
 
     // A without comes exactly where the ledger gives none.
-    fn refused(&mut self, report: Report) -> Result<(), Fail> {
-        let mut booking = self.booking(report.number).ok_or("no such booking")?;
-        assert_eq!(booking.kind, Kind::Undecided);
-        assert_eq!((report.column, report.row), (booking.start, 0));
-        assert_eq!(self.least(booking.start, booking.length), None);
-        assert_eq!(booking.marks, 0);
+    fn refused(&mut self, rt: &impl Abort, report: Report) {
+        let mut booking = self.booking(report.number).expect(rt, "no such booking");
+        assert_eq!(rt; booking.kind, Kind::Undecided);
+        assert_eq!(rt; (report.column, report.row), (booking.start, 0));
+        assert_eq!(rt; self.least(booking.start, booking.length), None);
+        assert_eq!(rt; booking.marks, 0);
         booking.kind = Kind::Without;
         self.put(booking);
-        Ok(())
     }
 
     // Starting over and walls leave the marks; both are of an undecided booking.
-    fn turned(&self, report: Report) -> Result<(), Fail> {
-        let booking = self.booking(report.number).ok_or("no such booking")?;
-        assert_eq!(booking.kind, Kind::Undecided);
-        assert_eq!(report.row, 0);
+    fn turned(&self, rt: &impl Abort, report: Report) {
+        let booking = self.booking(report.number).expect(rt, "no such booking");
+        assert_eq!(rt; booking.kind, Kind::Undecided);
+        assert_eq!(rt; report.row, 0);
         match report.action {
-            Action::Over => {
-                assert_eq!(report.column, booking.start);
-                Ok(())
-            },
-            _ => {
-                assert!(self.load(report.column) >= self.rows);
-                Ok(())
-            },
+            Action::Over => assert_eq!(rt; report.column, booking.start),
+            _ => assert!(rt; self.load(report.column) >= self.rows),
         }
     }
 
     /// Takes a report in, and holds it against what was told before. No booking may wait for as many
     /// steps as `patience`.
-    pub fn read(&mut self, which: Which, report: Report, patience: u32) -> Result<(), Fail> {
+    pub fn read(
+        &mut self,
+        rt: &impl Abort,
+        which: Which,
+        report: Report,
+        patience: u32,
+    ) -> Result<(), Fail> {
         match report.action {
-            Action::Mark => self.marked(which, report)?,
-            Action::Wipe => self.wiped(report)?,
-            Action::Grant => self.granted(report)?,
-            Action::Without => self.refused(report)?,
-            Action::Over | Action::Wall => self.turned(report)?,
+            Action::Mark => self.marked(rt, which, report),
+            Action::Wipe => self.wiped(rt, report),
+            Action::Grant => self.granted(rt, report)?,
+            Action::Without => self.refused(rt, report),
+            Action::Over | Action::Wall => self.turned(rt, report),
         }
         self.count_action(report.action);
         self.steps = self.steps.wrapping_add(1);
-        assert!(self.longest_wait() < patience);
+        assert!(rt; self.longest_wait() < patience);
         Ok(())
     }
 }

@@ -1,11 +1,12 @@
 //! Every refusal of the board at its edge, and openings.
 use crate::tests::asks::{Ask, Said, hear, play};
+use crate::tests::prefixed::Prefixed;
 use board::board::Board;
 use rules::report::Action;
 use rules::ticket::Stage;
 use std::alloc::Global;
 use std::process::Abort;
-use std::test::*;
+use std::test::Fail;
 
 #[test]
 fn opening_limits(rt: HostRuntime) -> Result<(), Fail> {
@@ -131,7 +132,7 @@ fn places(rt: &impl Abort, heap: Global) -> Result<(), Fail> {
 }
 
 // Takes as many bookings as there are places, one too many, and again one when a place is idle.
-fn fill_places(rt: &impl Abort, board: &mut Board, places: u32) -> Result<(), Fail> {
+fn fill_places(rt: &impl Abort, board: &mut Board, places: u32) {
     assert_eq!(rt; hear(board, Ask::Open(16, 256, places, 64, 1)), Said::Done);
     for number in 1..=places {
         assert_eq!(rt; hear(board, Ask::Book(0, 64)), Said::Figure(number));
@@ -142,13 +143,16 @@ fn fill_places(rt: &impl Abort, board: &mut Board, places: u32) -> Result<(), Fa
     assert_eq!(rt; hear(board, Ask::Book(0, 64)), Said::Figure(next));
     assert_eq!(rt; hear(board, Ask::Book(0, 64)), Said::No(4));
     assert_eq!(rt; hear(board, Ask::InUse), Said::Figure(places));
-    Ok(())
 }
 
 fn all_places(rt: &impl Abort, heap: Global) -> Result<(), Fail> {
     let mut board = Board::new(heap)?;
     for places in 1..=64 {
-        fill_places(rt, &mut board, places).note(format_args!("{places} places"))?;
+        fill_places(
+            &Prefixed::new(rt, format_args!("{places} places")),
+            &mut board,
+            places,
+        );
     }
     Ok(())
 }
@@ -156,8 +160,8 @@ fn all_places(rt: &impl Abort, heap: Global) -> Result<(), Fail> {
 // A booking is refused for its columns and for want of a place.
 #[test]
 fn bookings(rt: HostRuntime) -> Result<(), Fail> {
-    columns(&rt, rt.alloc()).note("columns")?;
-    places(&rt, rt.alloc()).note("places")?;
+    columns(&Prefixed::new(&rt, "columns"), rt.alloc())?;
+    places(&Prefixed::new(&rt, "places"), rt.alloc())?;
     all_places(&rt, rt.alloc())
 }
 
@@ -324,9 +328,9 @@ fn journals(rt: &impl Abort, heap: Global) -> Result<(), Fail> {
 // A call that names a number is refused for the number, for its stage and for a full journal.
 #[test]
 fn named_numbers(rt: HostRuntime) -> Result<(), Fail> {
-    numbers(&rt, rt.alloc()).note("numbers")?;
-    stages(&rt, rt.alloc()).note("stages")?;
-    journals(&rt, rt.alloc()).note("journals")
+    numbers(&Prefixed::new(&rt, "numbers"), rt.alloc())?;
+    stages(&Prefixed::new(&rt, "stages"), rt.alloc())?;
+    journals(&Prefixed::new(&rt, "journals"), rt.alloc())
 }
 
 // A board never opened has one row, one column and one place, and its numbers begin with 1.
@@ -415,6 +419,6 @@ fn opened_again(rt: &impl Abort, heap: Global) -> Result<(), Fail> {
 
 #[test]
 fn openings(rt: HostRuntime) -> Result<(), Fail> {
-    never_opened(&rt, rt.alloc()).note("never opened")?;
-    opened_again(&rt, rt.alloc()).note("opened again")
+    never_opened(&Prefixed::new(&rt, "never opened"), rt.alloc())?;
+    opened_again(&Prefixed::new(&rt, "opened again"), rt.alloc())
 }

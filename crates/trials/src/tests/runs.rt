@@ -13,7 +13,8 @@ use rules::report::Report;
 use rules::span::Span;
 use rules::ticket::{Request, Stage};
 use std::alloc::Global;
-use std::test::*;
+use std::process::Abort;
+use std::test::Fail;
 
 /// A rack, and what is drawn on it: starts from `base` on, in a spread of columns; lengths up to
 /// `longest`; steps that name any ticket, or with `newest` set the newest one only; so many calls.
@@ -169,14 +170,14 @@ impl Trial {
         Ok(self.next())
     }
 
-    fn book(&mut self) -> Result<(), Fail> {
+    fn book(&mut self, rt: &impl Abort) -> Result<(), Fail> {
         let start = self
             .rack
             .base
             .wrapping_add(self.chance.below(self.rack.spread));
         let length = self.chance.below(self.rack.longest.wrapping_add(1));
         let answer = self.board.book(Request { start, length });
-        assert_eq!(answer, self.must_book(start, length));
+        assert_eq!(rt; answer, self.must_book(start, length));
         if let Ok(number) = answer {
             let steps = self.ledger.steps;
             self.ledger
@@ -185,28 +186,28 @@ impl Trial {
         Ok(())
     }
 
-    fn step(&mut self, which: Which) -> Result<(), Fail> {
+    fn step(&mut self, rt: &impl Abort, which: Which) -> Result<(), Fail> {
         let number = self.pick_to_step();
         let stage = self.ledger.stage(number);
         let patience = self.patience();
         match self.trio.step(which, &mut self.board, number) {
             Ok(report) => {
-                assert!(is_soft(stage));
-                self.ledger.read(which, report, patience)
+                assert!(rt; is_soft(stage));
+                self.ledger.read(rt, which, report, patience)
             }
             Err(refusal) => {
-                assert!(!is_soft(stage));
-                assert_eq!(refusal, refusal_at(stage));
+                assert!(rt; !is_soft(stage));
+                assert_eq!(rt; refusal, refusal_at(stage));
                 Ok(())
             }
         }
     }
 
     // The reports of a drive, one after the other.
-    fn read(&mut self, which: Which, reports: &[Report]) -> Result<(), Fail> {
+    fn read(&mut self, rt: &impl Abort, which: Which, reports: &[Report]) -> Result<(), Fail> {
         let patience = self.patience();
         for report in reports {
-            self.ledger.read(which, *report, patience)?;
+            self.ledger.read(rt, which, *report, patience)?;
         }
         Ok(())
     }
@@ -214,20 +215,20 @@ impl Trial {
     // A drive ends where its ticket is not soft, at its budget, or where the journal is full.
     fn ended(
         &self,
+        rt: &impl Abort,
         number: u32,
         budget: u32,
         room: usize,
         made: u32,
         stage: Stage,
-    ) -> Result<(), Fail> {
-        assert_eq!(stage, self.ledger.stage(number));
-        assert_eq!(stage, self.board.stage(number));
-        assert!(made <= budget);
-        assert!(made == budget || made as usize == room || !is_soft(stage));
-        Ok(())
+    ) {
+        assert_eq!(rt; stage, self.ledger.stage(number));
+        assert_eq!(rt; stage, self.board.stage(number));
+        assert!(rt; made <= budget);
+        assert!(rt; made == budget || made as usize == room || !is_soft(stage));
     }
 
-    fn drive(&mut self, which: Which) -> Result<(), Fail> {
+    fn drive(&mut self, rt: &impl Abort, which: Which) -> Result<(), Fail> {
         let number = self.pick_to_step();
         let budget = self.chance.below(80);
         let room = (self.chance.below(65) as usize).min(64);
@@ -239,21 +240,18 @@ impl Trial {
             .drive(which, &mut self.board, number, budget, &mut journal)
         {
             Ok((made, stage)) => {
-                assert!(is_soft(before) && room > 0);
-                assert_eq!(journal.len(), made as usize);
-                self.read(which, journal.entries())?;
-                self.ended(number, budget, room, made, stage)
+                assert!(rt; is_soft(before) && room > 0);
+                assert_eq!(rt; journal.len(), made as usize);
+                self.read(rt, which, journal.entries())?;
+                self.ended(rt, number, budget, room, made, stage);
             }
             Err(refusal) if is_soft(before) => {
-                assert!(room == 0);
-                assert_eq!(refusal, Refusal::Full);
-                Ok(())
+                assert!(rt; room == 0);
+                assert_eq!(rt; refusal, Refusal::Full);
             }
-            Err(refusal) => {
-                assert_eq!(refusal, refusal_at(before));
-                Ok(())
-            },
+            Err(refusal) => assert_eq!(rt; refusal, refusal_at(before)),
         }
+        Ok(())
     }
 
     // What a collection must be answered.
@@ -271,18 +269,17 @@ impl Trial {
         }
     }
 
-    fn collect(&mut self) -> Result<(), Fail> {
+    fn collect(&mut self, rt: &impl Abort) {
         let number = self.pick();
         let must = self.must_collect(number);
         let answer = self.board.collect(number);
-        assert_eq!(answer, must);
+        assert_eq!(rt; answer, must);
         if answer.is_ok() {
             if let Some(mut booking) = self.ledger.booking(number) {
                 booking.collected = true;
                 self.ledger.put(booking);
             }
         }
-        Ok(())
     }
 
     // The booking is of another kind now.
@@ -293,52 +290,49 @@ impl Trial {
         }
     }
 
-    fn withdraw(&mut self) -> Result<(), Fail> {
+    fn withdraw(&mut self, rt: &impl Abort) {
         let number = self.pick();
         let stage = self.ledger.stage(number);
         match self.board.withdraw(number) {
             Ok(()) => {
-                assert_eq!(stage, Stage::Seeking);
+                assert_eq!(rt; stage, Stage::Seeking);
                 self.turn(number, Kind::Withdrawn);
                 self.withdrawn = self.withdrawn.wrapping_add(1);
-                Ok(())
             }
             Err(refusal) => {
-                assert!(stage != Stage::Seeking);
-                assert_eq!(refusal, refusal_at(stage));
-                Ok(())
+                assert!(rt; stage != Stage::Seeking);
+                assert_eq!(rt; refusal, refusal_at(stage));
             }
         }
     }
 
-    fn back(&mut self) -> Result<(), Fail> {
+    fn back(&mut self, rt: &impl Abort) {
         let number = self.pick();
         let stage = self.ledger.stage(number);
         match self.board.back(number) {
             Ok(()) => {
-                assert_eq!(stage, Stage::Out);
+                assert_eq!(rt; stage, Stage::Out);
                 self.turn(number, Kind::Returned);
                 self.ledger.leave(number);
                 self.returned = self.returned.wrapping_add(1);
-                Ok(())
             }
             Err(refusal) => {
-                assert!(stage != Stage::Out);
-                assert_eq!(refusal, refusal_at(stage));
-                Ok(())
+                assert!(rt; stage != Stage::Out);
+                assert_eq!(rt; refusal, refusal_at(stage));
             }
         }
     }
 
     /// One call drawn by chance.
-    pub fn call(&mut self, which: Which) -> Result<(), Fail> {
+    pub fn call(&mut self, rt: &impl Abort, which: Which) -> Result<(), Fail> {
         match self.chance.below(16) {
-            0 | 1 | 2 => self.book(),
-            3 | 4 | 5 | 6 => self.step(which),
-            7 | 8 | 9 => self.drive(which),
-            10 | 11 | 12 => self.collect(),
-            13 => self.withdraw(),
-            _ => self.back(),
+            0 | 1 | 2 => self.book(rt)?,
+            3 | 4 | 5 | 6 => self.step(rt, which)?,
+            7 | 8 | 9 => self.drive(rt, which)?,
+            10 | 11 | 12 => self.collect(rt),
+            13 => self.withdraw(rt),
+            _ => self.back(rt),
         }
+        Ok(())
     }
 }
