@@ -45,6 +45,6 @@ handled line page session faults =
       faults = cond (nat_lt (length page) shortest) faults (pushed faults (record { line = counted session.lines; fault = line_fault line })).contents;
     }
 
--- the same, of what the arguments of the call point to
+-- the same, of the arguments of the call: the line is still behind its reference
 abbrev pub handled_at : Option (Bor (List ℕ)) → List ℕ → Session → Journal LineFault → Handled
 handled_at line page session faults = handled (option_map (λ x. x.now) line) page session (contents_of faults)
