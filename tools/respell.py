@@ -3,8 +3,8 @@
 
 usage: python3 tools/respell.py [--list]      at the top of the repository, once, after the kit's own scripts
 
-A name is taken from its signature in specs/ or proofs/, or from the `as` of an import. Names that the checker makes (goals, steps, labels of
-clauses) and names of src/ are left alone. --list prints the table of old and new names and changes nothing.
+A name is taken from its signature in specs/ or proofs/, or from the `as` of an import. Names that the checker makes
+(goals, steps, labels of clauses) and names of src/ are left alone. --list prints the table of old and new names and changes nothing.
 """
 import collections
 import os

@@ -4,17 +4,9 @@ use Rattle.std.proofs.lemmas.List.{length-append, length_push, append-nil, take-
 use Rattle.std.proofs.lemmas.Bool.{le-ltb, lt-ltb}
 use Rattle.text.specs.declared.fault.LineFault.{LineFault}
 use Rattle.text.specs.Frames.{lines_of}
+use Rattle.text.proofs.Filling.{onward, onward_none}
 use Rattle.sheets.specs.declared.grant.GrantLine.{GrantLine}
 use Rattle.sheets.specs.Sheets.{grant_read, numbered, onto, and_then, lines_read, sheet_read, counted, Room, refused, taken, no_room, into_list}
-
--- grants read before those that a reading gives
-abbrev pub onward : List GrantLine → Result (List GrantLine) LineFault → Result (List GrantLine) LineFault
-onward gs (Err f) = Err f
-onward gs (Ok more) = Ok (gs ++ more)
-
-onward_none : (r : Result (List GrantLine) LineFault) → onward [] r ≡ r
-onward_none (Err f) = refl
-onward_none (Ok gs) = refl
 
 onward_onto : (gs : List GrantLine) (g : GrantLine) (r : Result (List GrantLine) LineFault) → onward gs (onto g r) ≡ onward (gs ++ (g ∷ [])) r
 onward_onto gs g (Err f) = refl

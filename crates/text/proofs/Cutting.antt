@@ -1,10 +1,10 @@
 -- A line cut into fields, and made of them again.
-use Rattle.std.proofs.Common.{◌≡◌, ℕ, ◌+◌, ◌<◌, ◌≤◌, Bool, true, false, cond, eqb, List, [], ◌∷◌, ◌++◌, length, get_or, take, drop, sym, refl, ap, ◌∙◌, arith}
-use Rattle.std.proofs.lemmas.List.{take_more, take-append-drop, at_drop_more}
+use Rattle.std.proofs.Common.{◌≡◌, ℕ, ◌+◌, ◌<◌, ◌≤◌, Bool, true, false, cond, eqb, List, [], ◌∷◌, ◌++◌, length, get_or, take, drop, Some, None, sym, refl, ap, ◌∙◌, arith}
+use Rattle.std.proofs.lemmas.List.{take_more, take-append-drop, at_drop_more, append-nil}
 use Rattle.std.proofs.lemmas.Bool.{and_parts, and_from, or_parts, or_from, not-true, not_from_false, ne_eqb, eqb-true}
 use Rattle.text.specs.Frames.{on_first}
 use Rattle.text.specs.Lines.{ends_once}
-use Rattle.text.specs.Fields.{fields_of, tabbed, text_line, line_of, plain, all_plain, FieldsAreTheLineCutAtTabs}
+use Rattle.text.specs.Fields.{first_field, after_field, fields_of, tabbed, text_line, line_of, plain, all_plain, FieldsAreTheLineCutAtTabs}
 
 -- the first byte of a plain field is no line feed and no tab, and the rest is plain
 plain_parts : (b : ℕ) (bs : List ℕ) → plain (b ∷ bs) ≡ true → (eqb b 10 ≡ false) × (eqb b 9 ≡ false) × (plain bs ≡ true)
@@ -30,6 +30,21 @@ pub cut_end : (field : List ℕ) → plain field ≡ true → fields_of field �
 cut_end [] h = refl
 cut_end (b ∷ field) h = let p = plain_parts b field h in simp (p.0, p.1, cut_end field p.2)
 
+-- plain bytes belong to the first field, and what is left comes after them
+first_plain : (field rest : List ℕ) → plain field ≡ true → first_field (field ++ rest) ≡ field ++ first_field rest
+first_plain [] rest h = refl
+first_plain (b ∷ field) rest h = let p = plain_parts b field h in simp (p.0, p.1, first_plain field rest p.2)
+
+after_plain : (field rest : List ℕ) → plain field ≡ true → after_field (field ++ rest) ≡ after_field rest
+after_plain [] rest h = refl
+after_plain (b ∷ field) rest h = let p = plain_parts b field h in simp (p.0, p.1, after_plain field rest p.2)
+
+-- so they are the first field, and nothing is left, where nothing follows
+pub plain_end : (field : List ℕ) → plain field ≡ true → (field ≡ first_field field) × (None ≡ after_field field)
+plain_end field h =
+    let e = append-nil field in
+    (sym (ap first_field (sym e) ∙ first_plain field [] h ∙ e), sym (ap after_field (sym e) ∙ after_plain field [] h))
+
 -- the bytes before a place, the one there, and those after it
 parted : (bytes : List ℕ) (i : ℕ) → i < length bytes → bytes ≡ take i bytes ++ (get_or bytes i 0 ∷ drop (i + 1) bytes)
 parted bytes i l = sym (take-append-drop i bytes) ∙ ap (λ xs. take i bytes ++ xs) (at_drop_more (λ xs. xs) bytes i 0 l)
@@ -46,6 +61,27 @@ module _ (bytes : List ℕ) (i : ℕ) (l : i < length bytes) (h : plain (take i 
       ap fields_of (parted bytes i l)
       ∙ ap (λ b. fields_of (take i bytes ++ (b ∷ drop (i + 1) bytes))) e
       ∙ cut_feed (take i bytes) (drop (i + 1) bytes) h
+
+  first_at : (b : ℕ) → get_or bytes i 0 ≡ b → first_field (b ∷ drop (i + 1) bytes) ≡ [] → first_field bytes ≡ take i bytes
+  first_at b e n =
+      ap first_field (parted bytes i l)
+      ∙ ap (λ d. first_field (take i bytes ++ (d ∷ drop (i + 1) bytes))) e
+      ∙ first_plain (take i bytes) (b ∷ drop (i + 1) bytes) h
+      ∙ ap (λ xs. take i bytes ++ xs) n
+      ∙ append-nil (take i bytes)
+
+  after_at : (b : ℕ) → get_or bytes i 0 ≡ b → after_field bytes ≡ after_field (b ∷ drop (i + 1) bytes)
+  after_at b e =
+      ap after_field (parted bytes i l)
+      ∙ ap (λ d. after_field (take i bytes ++ (d ∷ drop (i + 1) bytes))) e
+      ∙ after_plain (take i bytes) (b ∷ drop (i + 1) bytes) h
+
+  -- the first field ends at this tab, or at this line feed
+  pub ends_at_tab : get_or bytes i 0 ≡ 9 → (first_field bytes ≡ take i bytes) × (after_field bytes ≡ Some (drop (i + 1) bytes))
+  ends_at_tab e = (first_at 9 e refl, after_at 9 e)
+
+  pub ends_at_feed : get_or bytes i 0 ≡ 10 → (first_field bytes ≡ take i bytes) × (after_field bytes ≡ None)
+  ends_at_feed e = (first_at 10 e refl, after_at 10 e)
 
   pub plain_more : (get_or bytes i 0 ≡ 10 → ⊥) → (get_or bytes i 0 ≡ 9 → ⊥) → plain (take (i + 1) bytes) ≡ true
   plain_more n m = ap plain (take_more bytes i 0 l) ∙ plain_push (take i bytes) (get_or bytes i 0) h n m

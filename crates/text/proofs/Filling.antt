@@ -4,14 +4,15 @@ use Rattle.std.proofs.lemmas.List.{take-append-drop, take_more_set, drop-set-lt,
 use Rattle.text.specs.declared.fault.Fault.{Fault}
 use Rattle.text.specs.Tokens.{token_of, figure_in, before, figures_from}
 
--- figures read before those that a reading gives
-abbrev pub onward : List ℕ → Result (List ℕ) Fault → Result (List ℕ) Fault
-onward ns (Err f) = Err f
-onward ns (Ok ms) = Ok (ns ++ ms)
+module _ {X E : Type 0} where
+  -- entries read before those that a reading gives
+  abbrev pub onward : List X → Result (List X) E → Result (List X) E
+  onward xs (Err e) = Err e
+  onward xs (Ok more) = Ok (xs ++ more)
 
-onward_none : (r : Result (List ℕ) Fault) → onward [] r ≡ r
-onward_none (Err f) = refl
-onward_none (Ok ms) = refl
+  pub onward_none : (r : Result (List X) E) → onward [] r ≡ r
+  onward_none (Err e) = refl
+  onward_none (Ok more) = refl
 
 onward_before : (ns : List ℕ) (n : ℕ) (r : Result (List ℕ) Fault) → onward ns (before (Ok n) r) ≡ onward (ns ++ (n ∷ [])) r
 onward_before ns n (Err f) = refl

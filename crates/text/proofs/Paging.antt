@@ -1,8 +1,8 @@
 -- One text after another on a page.
-use Rattle.std.proofs.Common.{◌≡◌, ℕ, ◌+◌, ◌^◌, ◌<◌, ◌≤◌, Bool, true, false, cond, eqb, ltb, List, [], ◌∷◌, ◌++◌, map, length, get_or, take, drop, Ok, decimal, sym, refl, ap, ◌∙◌, subst, append_assoc, arith}
-use Rattle.std.proofs.lemmas.Fmt.{length-decimal-le}
+use Rattle.std.proofs.Common.{◌≡◌, ℕ, ◌+◌, ◌/◌, ◌^◌, ◌<◌, ◌≤◌, Bool, true, false, cond, eqb, ltb, List, [], ◌∷◌, ◌++◌, map, length, get_or, take, drop, Ok, decimal, sym, refl, ap, ◌∙◌, subst, append_assoc, arith}
+use Rattle.std.proofs.lemmas.Fmt.{length-decimal-le, decimal_step}
 use Rattle.std.proofs.lemmas.Bool.{le-ltb, ne_eqb}
-use Rattle.std.proofs.lemmas.List.{drop-drop, length-append, take-append-drop, at_drop_more, at_drop_all}
+use Rattle.std.proofs.lemmas.List.{drop-drop, length-append, length_push, take-append-drop, at_drop_more, at_drop_all}
 use Rattle.text.specs.Fields.{tab, tabbed, line_of}
 use Rattle.text.specs.Pages.{Puts, gap, field_text, answered, page_with}
 use Rattle.text.specs.Faults.{layer_of, layer_word}
@@ -12,6 +12,10 @@ use Rattle.text.specs.declared.page.Field.{Field}
 use Rattle.text.specs.declared.page.Field.TheVariants as field
 use Rattle.rules.specs.declared.refusal.Refusal.{Refusal}
 use Rattle.rules.specs.Words.{refusal_number}
+
+-- a figure of more than one digit has one more than its tenth
+pub more_long : (n : ℕ) → 10 ≤ n → n < 2 ^ 64 → length (decimal n) ≡ length (decimal (n / 10)) + 1
+more_long n h f = ap length (decimal_step n h f) ∙ length_push (decimal (n / 10)) _
 
 pub puts_then : {page mid after : List ℕ} {at next end : ℕ} {text more : List ℕ} → Puts page at text mid next → Puts mid next more after end → Puts page at (text ++ more) after end
 puts_then {page} {mid} {after} {at} {next} {end} {text} {more} p q =

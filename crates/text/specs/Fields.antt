@@ -18,6 +18,16 @@ abbrev pub fields_left : Option (Bor (List ℕ)) → List (List ℕ)
 fields_left None = []
 fields_left (Some rest) = fields_of rest.now
 
+-- the bytes before the first tab or line feed, or all of them
+abbrev pub first_field : List ℕ → List ℕ
+first_field [] = []
+first_field (b ∷ bs) = cond (b == feed || b == tab) [] (b ∷ first_field bs)
+
+-- the bytes after the first tab, unless a line feed stands before it
+abbrev pub after_field : List ℕ → Option (List ℕ)
+after_field [] = None
+after_field (b ∷ bs) = cond (b == feed) None (cond (b == tab) (Some bs) (after_field bs))
+
 -- the fields but the first
 abbrev pub fields_after : List (List ℕ) → List (List ℕ)
 fields_after [] = []

@@ -56,6 +56,10 @@ pub record Puts (page : List ℕ) (at : ℕ) (text : List ℕ) (after : List ℕ
   pub rest : drop end after ≡ drop end page
 
 -- whether a page has room for an answer
+abbrev pub checked : List ℕ → Result (Unit {0}) Fault
+checked page = cond (nat_lt (length page) shortest) (Err (fault_of refusal.Page 0 0)) (Ok tt)
+
+-- and what that says of its length
 abbrev pub Checked : List ℕ → Result (Unit {0}) Fault → Type 0
 Checked page (Ok _) = shortest ≤ length page
 Checked page (Err f) = (length page < shortest) × (f ≡ fault_of refusal.Page 0 0)

@@ -1,7 +1,7 @@
 //! Text on a page that the caller lends.
 ghost use Rattle.std.specs.Prelude.{◌≡◌, ◌+◌, ◌≤◌, map, length, IfOk, decimal};
 ghost use Rattle.text.specs.Fields.{line_of};
-ghost use Rattle.text.specs.Pages.{shortest, field_text, gap, Puts, Checked, no_line, fault_line, end_line, answered, page_with};
+ghost use Rattle.text.specs.Pages.{shortest, field_text, gap, Puts, checked, Checked, no_line, fault_line, end_line, answered, page_with};
 
 use crate::fault::Fault;
 use rules::refusal::Refusal;
@@ -73,7 +73,8 @@ pub fn put_line(page: &mut [u8], at: usize, fields: &[Field]) -> usize
 
 /// Whether the page has room for an answer.
 pub fn check(page: &[u8]) -> Result<(), Fault>
-    ensures { Checked page.now result }
+    ensures answer { result ≡ checked page.now }
+    ensures room { Checked page.now result }
 {
     if page.len() < SHORTEST {
         return Err(Fault::new(Refusal::Page, 0, 0));

@@ -13,7 +13,7 @@ use std::test::Fail;
 /// A call with its figures. A drive has a budget and so many places in its journal; a seen asks the
 /// list of tickets for what the ticket's search goes by.
 #[derive(Clone, Copy)]
-pub enum Ask {
+pub(super) enum Ask {
     Open(u32, u32, u32, u32, u32),
     Book(u32, u32),
     Step(u32),
@@ -31,7 +31,7 @@ pub enum Ask {
 /// What it answers: nothing further, a number, a report, a drive's steps and stage, a span, no window,
 /// a stage, or the number of its refusal.
 #[derive(Clone, Copy, PartialEq, Eq, Debug)]
-pub enum Said {
+pub(super) enum Said {
     Done,
     Figure(u32),
     Told(u32, Action, u32, u32),
@@ -79,7 +79,7 @@ fn collected(answer: Result<Option<Span>, Refusal>) -> Said {
 }
 
 /// What a journal place holds before a report is entered.
-pub fn no_report() -> Report {
+pub(super) fn no_report() -> Report {
     Report {
         number: 0,
         action: Action::Wall,
@@ -124,7 +124,7 @@ fn asked(board: &Board, ask: Ask) -> Said {
 }
 
 /// The answer to a call. Marks go to the lowest vacant row.
-pub fn hear(board: &mut Board, ask: Ask) -> Said {
+pub(super) fn hear(board: &mut Board, ask: Ask) -> Said {
     match ask {
         Ask::Open(rows, columns, places, lead, first) => {
             done(board.open(rows, columns, places, lead, first))
@@ -191,7 +191,7 @@ fn is_no(said: Said) -> bool {
 
 /// Makes the calls in order. Each has to be answered as the table says, and one that is refused must
 /// leave all that can be seen as it was.
-pub fn play(
+pub(super) fn play(
     rt: &impl Abort,
     heap: Global,
     board: &mut Board,

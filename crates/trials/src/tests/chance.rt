@@ -1,12 +1,12 @@
 //! Numbers that look drawn by chance, the same ones at each run.
 
 #[derive(Drop)]
-pub struct Chance {
+pub(super) struct Chance {
     state: u32,
 }
 
 impl Chance {
-    pub fn new(seed: u32) -> Chance {
+    pub(super) fn new(seed: u32) -> Chance {
         Chance { state: seed | 1 }
     }
 
@@ -20,7 +20,7 @@ impl Chance {
     }
 
     /// A number from 0 to `most`, `most` not among them; 0 where that is 0.
-    pub fn below(&mut self, most: u32) -> u32 {
+    pub(super) fn below(&mut self, most: u32) -> u32 {
         let x = self.draw().wrapping_shr(3);
         if most == 0 { 0 } else { x % most }
     }

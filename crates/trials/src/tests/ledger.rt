@@ -4,7 +4,7 @@ use rules::ticket::Stage;
 use std::alloc::{AllocError, Global};
 
 #[derive(Clone, Copy, PartialEq, Eq, Debug)]
-pub enum Kind {
+pub(super) enum Kind {
     Undecided,
     Withdrawn,
     Without,
@@ -15,7 +15,7 @@ pub enum Kind {
 /// A booking taken: what was asked for, its kind, whether its answer was collected, how many marks it
 /// has, and how many steps had been made when it was taken.
 #[derive(Clone, Copy)]
-pub struct Booking {
+pub(super) struct Booking {
     pub number: u32,
     pub start: u32,
     pub length: u32,
@@ -27,7 +27,7 @@ pub struct Booking {
 }
 
 impl Booking {
-    pub fn new(number: u32, start: u32, length: u32, taken: u32) -> Booking {
+    pub(super) fn new(number: u32, start: u32, length: u32, taken: u32) -> Booking {
         Booking {
             number,
             start,
@@ -41,7 +41,7 @@ impl Booking {
     }
 
     /// The stage that its ticket must be in.
-    pub fn stage(&self) -> Stage {
+    pub(super) fn stage(&self) -> Stage {
         match self.kind {
             Kind::Undecided => Stage::Seeking,
             Kind::Without if self.collected => Stage::Idle,
@@ -56,14 +56,14 @@ impl Booking {
 
 /// A window that stands.
 #[derive(Clone, Copy, Debug)]
-pub struct Standing {
+pub(super) struct Standing {
     pub number: u32,
     pub first: u32,
     pub length: u32,
 }
 
 #[derive(Drop)]
-pub struct Ledger {
+pub(super) struct Ledger {
     pub rows: u32,
     pub columns: u32,
     pub first: u32,
@@ -77,7 +77,7 @@ pub struct Ledger {
 }
 
 // So many zeros.
-pub fn zeros(heap: Global, count: u32) -> Result<Vec<u32>, AllocError> {
+pub(super) fn zeros(heap: Global, count: u32) -> Result<Vec<u32>, AllocError> {
     let mut list = Vec::new(heap);
     for _ in 0..count {
         list.push(0)?;
@@ -86,7 +86,12 @@ pub fn zeros(heap: Global, count: u32) -> Result<Vec<u32>, AllocError> {
 }
 
 impl Ledger {
-    pub fn new(heap: Global, rows: u32, columns: u32, first: u32) -> Result<Ledger, AllocError> {
+    pub(super) fn new(
+        heap: Global,
+        rows: u32,
+        columns: u32,
+        first: u32,
+    ) -> Result<Ledger, AllocError> {
         Ok(Ledger {
             rows,
             columns,
@@ -102,7 +107,7 @@ impl Ledger {
     }
 
     /// How many standing windows cover the column.
-    pub fn load(&self, column: u32) -> u32 {
+    pub(super) fn load(&self, column: u32) -> u32 {
         let mut load = 0u32;
         for window in self.windows.iter() {
             if window.first <= column && column.wrapping_sub(window.first) < window.length {
@@ -123,7 +128,7 @@ impl Ledger {
     }
 
     /// The ledger's answer to a booking: the least first column with room for it, if there is one.
-    pub fn least(&self, start: u32, length: u32) -> Option<u32> {
+    pub(super) fn least(&self, start: u32, length: u32) -> Option<u32> {
         for first in start..self.columns {
             if first.wrapping_add(length) <= self.columns && self.fits(first, length) {
                 return Some(first);
@@ -133,7 +138,7 @@ impl Ledger {
     }
 
     /// The number whose mark a slot holds by the reports; 0 where it is vacant.
-    pub fn owner(&self, column: u32, row: u32) -> u32 {
+    pub(super) fn owner(&self, column: u32, row: u32) -> u32 {
         let place = column
             .wrapping_mul(self.rows)
             .wrapping_add(row)
@@ -141,7 +146,7 @@ impl Ledger {
         self.owners.get(place as usize).copied().unwrap_or(0)
     }
 
-    pub fn own(&mut self, column: u32, row: u32, number: u32) {
+    pub(super) fn own(&mut self, column: u32, row: u32, number: u32) {
         let place = column
             .wrapping_mul(self.rows)
             .wrapping_add(row)
@@ -152,7 +157,7 @@ impl Ledger {
     }
 
     /// How many slots of the column hold a mark by the reports.
-    pub fn marks_in(&self, column: u32) -> u32 {
+    pub(super) fn marks_in(&self, column: u32) -> u32 {
         let mut count = 0u32;
         for row in 1..=self.rows {
             if self.owner(column, row) != 0 {
@@ -163,7 +168,7 @@ impl Ledger {
     }
 
     /// How many slots of the column hold the number's mark.
-    pub fn marks_of(&self, number: u32, column: u32) -> u32 {
+    pub(super) fn marks_of(&self, number: u32, column: u32) -> u32 {
         let mut count = 0u32;
         for row in 1..=self.rows {
             if self.owner(column, row) == number {
@@ -174,7 +179,7 @@ impl Ledger {
     }
 
     /// The row of the number's mark in the column, if it has one.
-    pub fn row_of(&self, number: u32, column: u32) -> Option<u32> {
+    pub(super) fn row_of(&self, number: u32, column: u32) -> Option<u32> {
         for row in 1..=self.rows {
             if self.owner(column, row) == number {
                 return Some(row);
@@ -187,24 +192,24 @@ impl Ledger {
         number.wrapping_sub(self.first) as usize
     }
 
-    pub fn booking(&self, number: u32) -> Option<Booking> {
+    pub(super) fn booking(&self, number: u32) -> Option<Booking> {
         self.bookings.get(self.index(number)).copied()
     }
 
-    pub fn put(&mut self, booking: Booking) {
+    pub(super) fn put(&mut self, booking: Booking) {
         let index = self.index(booking.number);
         if let Some(place) = self.bookings.get_mut(index) {
             *place = booking;
         }
     }
 
-    pub fn take(&mut self, booking: Booking) -> Result<(), AllocError> {
+    pub(super) fn take(&mut self, booking: Booking) -> Result<(), AllocError> {
         self.taken = self.taken.wrapping_add(1);
         self.bookings.push(booking)?;
         Ok(())
     }
 
-    pub fn stand(&mut self, number: u32, first: u32, length: u32) -> Result<(), AllocError> {
+    pub(super) fn stand(&mut self, number: u32, first: u32, length: u32) -> Result<(), AllocError> {
         self.windows.push(Standing {
             number,
             first,
@@ -223,7 +228,7 @@ impl Ledger {
     }
 
     /// A back entry: the window leaves the list.
-    pub fn leave(&mut self, number: u32) {
+    pub(super) fn leave(&mut self, number: u32) {
         let place = self.place_of(number);
         if place < self.windows.len() {
             let _ = self.windows.swap_remove(place);
@@ -231,7 +236,7 @@ impl Ledger {
     }
 
     /// The stage that a number must be in.
-    pub fn stage(&self, number: u32) -> Stage {
+    pub(super) fn stage(&self, number: u32) -> Stage {
         match self.booking(number) {
             Some(booking) => booking.stage(),
             None => Stage::Idle,
@@ -239,7 +244,7 @@ impl Ledger {
     }
 
     /// How many places must be in use.
-    pub fn in_use(&self) -> u32 {
+    pub(super) fn in_use(&self) -> u32 {
         let mut count = 0u32;
         for booking in self.bookings.iter() {
             if !matches!(booking.stage(), Stage::Idle) {
@@ -250,7 +255,7 @@ impl Ledger {
     }
 
     /// How many bookings are of a kind.
-    pub fn of_kind(&self, kind: Kind) -> u32 {
+    pub(super) fn of_kind(&self, kind: Kind) -> u32 {
         let mut count = 0u32;
         for booking in self.bookings.iter() {
             if booking.kind == kind {
@@ -261,19 +266,19 @@ impl Ledger {
     }
 
     /// One more report of the action.
-    pub fn count_action(&mut self, action: Action) {
+    pub(super) fn count_action(&mut self, action: Action) {
         if let Some(count) = self.actions.get_mut(action.number() as usize) {
             *count = count.wrapping_add(1);
         }
     }
 
     /// How many reports there were of the action with this number.
-    pub fn reports_of(&self, action: u32) -> u32 {
+    pub(super) fn reports_of(&self, action: u32) -> u32 {
         self.actions.get(action as usize).copied().unwrap_or(0)
     }
 
     /// The most steps that an undecided booking has waited for.
-    pub fn longest_wait(&self) -> u32 {
+    pub(super) fn longest_wait(&self) -> u32 {
         let mut most = 0u32;
         for booking in self.bookings.iter() {
             if booking.kind == Kind::Undecided {

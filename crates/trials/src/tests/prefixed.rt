@@ -4,13 +4,13 @@ use std::process::Abort;
 
 /// Ends as the handle in it does, with the prefix before the message of a panic.
 #[derive(Drop)]
-pub struct Prefixed<'a, R, P> {
+pub(super) struct Prefixed<'a, R, P> {
     rt: &'a R,
     prefix: P,
 }
 
 impl<'a, R, P> Prefixed<'a, R, P> {
-    pub fn new(rt: &'a R, prefix: P) -> Prefixed<'a, R, P> {
+    pub(super) fn new(rt: &'a R, prefix: P) -> Prefixed<'a, R, P> {
         Prefixed { rt, prefix }
     }
 }

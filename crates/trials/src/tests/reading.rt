@@ -6,7 +6,7 @@ use std::test::Fail;
 
 /// Which chooser a call is given.
 #[derive(Clone, Copy, PartialEq, Eq, Debug)]
-pub enum Which {
+pub(super) enum Which {
     Lowest,
     Staying,
     Evening,
@@ -140,7 +140,7 @@ impl Ledger {
 
     /// Takes a report in, and holds it against what was told before. No booking may wait for as many
     /// steps as `patience`.
-    pub fn read(
+    pub(super) fn read(
         &mut self,
         rt: &impl Abort,
         which: Which,

@@ -19,7 +19,7 @@ use std::test::Fail;
 /// A rack, and what is drawn on it: starts from `base` on, in a spread of columns; lengths up to
 /// `longest`; steps that name any ticket, or with `newest` set the newest one only; so many calls.
 #[derive(Clone, Copy, Debug)]
-pub struct Rack {
+pub(super) struct Rack {
     pub rows: u32,
     pub columns: u32,
     pub places: u32,
@@ -34,14 +34,14 @@ pub struct Rack {
 
 /// The three choosers, with what they hold.
 #[derive(Clone, Copy)]
-pub struct Trio {
+pub(super) struct Trio {
     lowest: Lowest,
     staying: Staying,
     evening: Evening,
 }
 
 impl Trio {
-    pub fn new() -> Trio {
+    pub(super) fn new() -> Trio {
         Trio {
             lowest: Lowest,
             staying: Staying,
@@ -88,7 +88,7 @@ fn is_soft(stage: Stage) -> bool {
 
 /// A board under trial, with what its answers have told so far.
 #[derive(Drop)]
-pub struct Trial {
+pub(super) struct Trial {
     pub rack: Rack,
     pub board: Board,
     pub ledger: Ledger,
@@ -99,7 +99,7 @@ pub struct Trial {
 }
 
 impl Trial {
-    pub fn new(heap: Global, rack: Rack, seed: u32) -> Result<Trial, Fail> {
+    pub(super) fn new(heap: Global, rack: Rack, seed: u32) -> Result<Trial, Fail> {
         let mut board = Board::new(heap)?;
         board.open(rack.rows, rack.columns, rack.places, rack.lead, rack.first)?;
         Ok(Trial {
@@ -121,7 +121,7 @@ impl Trial {
     }
 
     /// The number that the next booking must get.
-    pub fn next(&self) -> u32 {
+    pub(super) fn next(&self) -> u32 {
         self.rack.first.wrapping_add(self.ledger.taken)
     }
 
@@ -324,7 +324,7 @@ impl Trial {
     }
 
     /// One call drawn by chance.
-    pub fn call(&mut self, rt: &impl Abort, which: Which) -> Result<(), Fail> {
+    pub(super) fn call(&mut self, rt: &impl Abort, which: Which) -> Result<(), Fail> {
         match self.chance.below(16) {
             0 | 1 | 2 => self.book(rt)?,
             3 | 4 | 5 | 6 => self.step(rt, which)?,

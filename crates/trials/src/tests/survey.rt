@@ -109,7 +109,7 @@ impl Trial {
     }
 
     /// Looks at everything.
-    pub fn survey(&self, rt: &impl Abort, heap: Global) -> Result<(), Fail> {
+    pub(super) fn survey(&self, rt: &impl Abort, heap: Global) -> Result<(), Fail> {
         self.tickets_agree(rt);
         self.accounts_balance(rt);
         self.marks_agree(rt);

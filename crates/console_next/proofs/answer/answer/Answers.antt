@@ -17,7 +17,7 @@ returns-in_err-check g c =
     let m = g.C.Chooser.meaning in
     let x = rack_in c.args.board.now in
     let p = err_from_is_err_and c.from_residual.result c.from_residual.ensures.1 in
-    let short = c.in_err-check.ensures in
+    let short = c.in_err-check.ensures.room in
     let d = too_short m x (contents_of c.args.journal.now) c.args.chooser.now c.args.line.now c.args.page.now short.0 in
     record {
       answer = p.1 ∙ ap Err (p.2 ∙ short.1) ∙ sym (ap (λ a. a.answer) d);
@@ -35,7 +35,7 @@ returns-in_err-order g c =
     let m = g.C.Chooser.meaning in
     let x = rack_in c.args.board.now in
     let p = err_from_is_err_and c.from_residual-in_err-order.result c.from_residual-in_err-order.ensures.1 in
-    let d = misread m x (contents_of c.args.journal.now) c.args.chooser.now c.args.line.now c.args.page.now c.in_ok-check.ensures _ (sym c.read_order.ensures ∙ c.in_err-order.was) in
+    let d = misread m x (contents_of c.args.journal.now) c.args.chooser.now c.args.line.now c.args.page.now c.in_ok-check.ensures.room _ (sym c.read_order.ensures ∙ c.in_err-order.was) in
     record {
       answer = p.1 ∙ ap Err p.2 ∙ sym (ap (λ a. a.answer) d);
       page = sym (ap (λ a. a.page) d);
@@ -57,7 +57,7 @@ returns-in_err-reply g c =
     let read = sym c.read_order.ensures ∙ c.in_ok-order.was in
     let no = sym c.call.ensures.reply ∙ c.in_err-reply.was in
     let p = err_from_is_err_and c.from_residual-in_err-reply.result c.from_residual-in_err-reply.ensures.1 in
-    let d = denied m x j s c.args.line.now c.args.page.now c.in_ok-check.ensures order read _ no in
+    let d = denied m x j s c.args.line.now c.args.page.now c.in_ok-check.ensures.room order read _ no in
     let same = refused_order m x j s order _ no in
     let rack = c.call.ensures.rack ∙ same.rack in
     record {
@@ -81,7 +81,7 @@ returns g c =
     let reply = c.in_ok-reply.reply in
     let read = sym c.read_order.ensures ∙ c.in_ok-order.was in
     let yes = sym c.call.ensures.reply ∙ c.in_ok-reply.was in
-    let d = granted m x j s c.args.line.now c.args.page.now c.in_ok-check.ensures order read reply yes in
+    let d = granted m x j s c.args.line.now c.args.page.now c.in_ok-check.ensures.room order read reply yes in
     record {
       answer = ap Ok (c.put.ensures.ends ∙ zero-add (length (reply_text reply))) ∙ sym (ap (λ a. a.answer) d);
       page = puts_page c.args.page.now (reply_text reply) c.put.new.page c.put.result c.put.ensures ∙ sym (ap (λ a. a.page) d);

@@ -1,13 +1,11 @@
 use Rattle.std.proofs.Common.{◌≡◌, ℕ, ◌+◌, ◌/◌, ◌%◌, ◌^◌, ◌<◌, ◌≤◌, List, [], ◌∷◌, ◌++◌, length, take, drop, set, decimal, sym, refl, ap, ◌∙◌, append_assoc, arith}
-use Rattle.std.proofs.lemmas.List.{take_more_set, drop-set-lt, drop-drop, length_push}
+use Rattle.std.proofs.lemmas.List.{take_more_set, drop-set-lt, drop-drop}
 use Rattle.std.proofs.lemmas.Fmt.{decimal_digit, decimal_step}
+use Rattle.text.proofs.Paging.{more_long}
 use Rattle.text.proofs.page.+put_digits.Goals as goal
 
 one_long : (n : ℕ) → n < 10 → length (decimal n) ≡ 1
 one_long n h = ap length (decimal_digit n h)
-
-more_long : (n : ℕ) → 10 ≤ n → n < 2 ^ 64 → length (decimal n) ≡ length (decimal (n / 10)) + 1
-more_long n h f = ap length (decimal_step n h f) ∙ length_push (decimal (n / 10)) _
 
 -- the only digit
 only : (page : List ℕ) (at n : ℕ) → n < 10 → at < length page → take (at + 1) (set page at (48 + n)) ≡ take at page ++ decimal n

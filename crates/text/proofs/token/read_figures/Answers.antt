@@ -24,7 +24,7 @@ returns-in_err-figures c =
     p.1
     ∙ ap Err p.2
     ∙ sym (fill_stops c.loop-i.figures c.loop-i.i (c.loop-i.i + 2) (omega (arith, c.loop-i.invariant.1)) field fields _ fault)
-    ∙ left_is c.loop-i.figures c.loop-i.i (fields_left c.loop-i.rest) (field ∷ fields) c.args.line.now (ap fields_left c.in-Some.is ∙ c.next_field-in-loop-i.ensures) c.loop-i.invariant.0
+    ∙ left_is c.loop-i.figures c.loop-i.i (fields_left c.loop-i.rest) (field ∷ fields) c.args.line.now (ap fields_left c.in-Some.is ∙ c.next_field-in-loop-i.ensures.fields) c.loop-i.invariant.0
 
 pub loop-i-preserved : goal.loop-i-preserved
 loop-i-preserved c =
@@ -35,7 +35,7 @@ loop-i-preserved c =
     let place : c.loop-i.i + 1 + 2 ≡ suc (c.loop-i.i + 2) = omega arith in (
       ap (λ n. onward (take (c.loop-i.i + 1) places) (figures_from n (drop (c.loop-i.i + 1) places) fields)) place
           ∙ sym (fill_more c.loop-i.figures c.loop-i.i (c.loop-i.i + 2) (omega (arith, c.loop-i.invariant.1)) field fields _ value)
-          ∙ left_is c.loop-i.figures c.loop-i.i (fields_left c.loop-i.rest) (field ∷ fields) c.args.line.now (ap fields_left c.in-Some.is ∙ c.next_field-in-loop-i.ensures) c.loop-i.invariant.0,
+          ∙ left_is c.loop-i.figures c.loop-i.i (fields_left c.loop-i.rest) (field ∷ fields) c.args.line.now (ap fields_left c.in-Some.is ∙ c.next_field-in-loop-i.ensures.fields) c.loop-i.invariant.0,
       simp length-set c.loop-i.invariant.1,
     )
 

@@ -17,7 +17,7 @@ returns-in_err-check g c =
     let m = g.C.Chooser.meaning in
     let x = rack_in c.args.self.now.board in
     let p = err_from_is_err_and c.from_residual.result c.from_residual.ensures.1 in
-    let short = c.in_err-check.ensures in
+    let short = c.in_err-check.ensures.room in
     let d = unhandled m (option_map (λ x. x.now) c.args.line) c.args.page.now (desk_of c.args.self.now c.args.reports.now c.args.faults.now) short.0 in
     record {
       answer = p.1 ∙ ap Err (p.2 ∙ short.1) ∙ sym (ap (λ h. h.answer) d);
@@ -40,7 +40,7 @@ returns-in-Ok g c =
     let s = c.args.self.now.chooser in
     let o = c.answer_line.ensures in
     let q = ap (λ j. line_answered m l page x j s) c.clear.ensures.contents in
-    let d = settles m l page (desk_of c.args.self.now c.args.reports.now c.args.faults.now) c.in_ok-check.ensures (Ok c.in-Ok.len) (sym (ap (λ a. a.answer) q) ∙ sym o.answer ∙ c.in-Ok.is) in
+    let d = settles m l page (desk_of c.args.self.now c.args.reports.now c.args.faults.now) c.in_ok-check.ensures.room (Ok c.in-Ok.len) (sym (ap (λ a. a.answer) q) ∙ sym o.answer ∙ c.in-Ok.is) in
     record {
       answer = sym (ap (λ h. h.answer) d);
       page = o.page ∙ ap (λ a. a.page) q ∙ sym (ap (λ h. h.page) d);
@@ -65,8 +65,8 @@ returns-in-Err g c =
     let f = c.in-Err.fault in
     let o = c.answer_line.ensures in
     let q = ap (λ j. line_answered m l page x j s) c.clear.ensures.contents in
-    let d = settles m l page (desk_of c.args.self.now c.args.reports.now c.args.faults.now) c.in_ok-check.ensures (Err f) (sym (ap (λ a. a.answer) q) ∙ sym o.answer ∙ c.in-Err.is) in
-    let room : 64 ≤ length c.answer_line.new.page = omega (arith, c.in_ok-check.ensures, c.answer_line.auto.page) in
+    let d = settles m l page (desk_of c.args.self.now c.args.reports.now c.args.faults.now) c.in_ok-check.ensures.room (Err f) (sym (ap (λ a. a.answer) q) ∙ sym o.answer ∙ c.in-Err.is) in
+    let room : 64 ≤ length c.answer_line.new.page = omega (arith, c.in_ok-check.ensures.room, c.answer_line.auto.page) in
     let w = no_answered f c.answer_line.new.page room in
     let lines = o.lines ∙ c.saturating_add-self.ensures in
     let answer = c.write_no.ensures.value ∙ w.0 in
@@ -82,6 +82,6 @@ returns-in-Err g c =
       faults_place = c.push.ensures.place;
       history = subst (λ (h : Handled _). Continues h.tells x (rack_in c.answer_line.new.self.board)) (sym d) (subst (λ (a : Answered _). Continues a.tells x (rack_in c.answer_line.new.self.board)) q o.history);
       served = λ _. ap is_ok answer;
-      fits = IfOk-weaker c.write_no.result (λ n. n ≤ 64) (λ n. n ≤ length page) (λ n k. omega (arith, c.in_ok-check.ensures)) c.write_no.ensures.fits;
+      fits = IfOk-weaker c.write_no.result (λ n. n ≤ 64) (λ n. n ≤ length page) (λ n k. omega (arith, c.in_ok-check.ensures.room)) c.write_no.ensures.fits;
       long = long_line m;
     }
