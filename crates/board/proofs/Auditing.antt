@@ -10,7 +10,8 @@ use Rattle.rules.specs.declared.ticket.Ticket.{Ticket}
 use Rattle.rules.proofs.Listing.{total_append}
 use Rattle.rules.proofs.Carried.{book_carries, step_carries, drive_carries, collect_carries, drop_carries, back_carries}
 use Rattle.rules.specs.Lists.{unit, count_of}
-use Rattle.rules.specs.Rack.{Sizes, Rack, opened, seeking, hard}
+use Rattle.rules.specs.declared.rack.Sizes.{Sizes}
+use Rattle.rules.specs.Rack.{Rack, opened, seeking, hard}
 use Rattle.rules.specs.Calls.{openable, open'}
 use Rattle.rules.specs.Accounts.{is_withdrawn, numbers}
 use Rattle.rules.proofs.Kept.{sound}

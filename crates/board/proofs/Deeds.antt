@@ -8,7 +8,8 @@ use Rattle.rules.specs.declared.report.Report.{Report}
 use Rattle.rules.specs.declared.report.Action.{Action}
 use Rattle.rules.specs.declared.report.Action.TheVariants as action
 use Rattle.rules.specs.Lists.{edit}
-use Rattle.rules.specs.Rack.{Sizes, Rack, soft, named, cells, has_vacant, row_of, with}
+use Rattle.rules.specs.declared.rack.Sizes.{Sizes}
+use Rattle.rules.specs.Rack.{Rack, soft, named, cells, has_vacant, row_of, with}
 use Rattle.rules.specs.Step.{ahead, retreats, action_of, row_told, column_of, slots_after, after, report_of, acted}
 use Rattle.rules.specs.Choosers.{Meaning, mask_of, asked}
 use Rattle.rules.specs.Calls.{row_for, held_after}

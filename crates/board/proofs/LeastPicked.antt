@@ -5,7 +5,8 @@ use Rattle.std.proofs.lemmas.List.{get_or-take, length-take}
 use Rattle.std.proofs.lemmas.Bool.{both_ways, cases_lt, cases_order}
 use Rattle.std.proofs.lemmas.Bool.Decides.{nat_tests}
 use Rattle.lists.specs.Order.{LeadsAt}
-use Rattle.rules.specs.Choosers.{Asked, vacant_in, tally_of, evening_row, PicksEvening}
+use Rattle.rules.specs.declared.asked.Asked.{Asked}
+use Rattle.rules.specs.Choosers.{vacant_in, tally_of, evening_row, PicksEvening}
 use Rattle.rules.proofs.Picks.{vacant_range, picks_evening, one_evening}
 use Rattle.board.specs.declared.tally.RowTally.{RowTally}
 use Rattle.board.specs.Tallies.{ranks, tallied, vacant_tallies}

@@ -5,7 +5,8 @@ use Rattle.rules.specs.declared.refusal.Refusal.TheVariants as refusal
 use Rattle.rules.specs.declared.slot.Slot.{Slot}
 use Rattle.rules.specs.declared.slot.Slot.TheVariants.{Vacant}
 use Rattle.rules.specs.declared.ticket.Ticket.{Ticket}
-use Rattle.rules.specs.Rack.{Sizes, Rack, opened, never_opened}
+use Rattle.rules.specs.declared.rack.Sizes.{Sizes}
+use Rattle.rules.specs.Rack.{Rack, opened, never_opened}
 use Rattle.rules.specs.Calls.{openable, open'}
 use Rattle.rules.specs.History.{Event, Reaches}
 use Rattle.rules.specs.Laws.{told, Carries}

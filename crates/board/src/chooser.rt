@@ -1,6 +1,7 @@
 //! Who chooses the row of a mark.
 ghost use Rattle.std.specs.Prelude.{◌≡◌, ℕ, true};
-ghost use Rattle.rules.specs.Choosers.{Asked, Meaning, vacant_in, answer_of, held_by};
+ghost use Rattle.rules.specs.declared.asked.Asked.{Asked};
+ghost use Rattle.rules.specs.Choosers.{Meaning, vacant_in, answer_of, held_by};
 
 /// A row chooser. It is told the vacant rows of a column as a mask, row 1 in bit 0, the column, and
 /// the row of the ticket's own mark one column to the left, if it has one. It answers nothing

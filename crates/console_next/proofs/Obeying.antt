@@ -5,7 +5,8 @@ use Rattle.lists.specs.Contents.{Contents, room_of, entered}
 use Rattle.rules.specs.declared.refusal.Refusal.{Refusal}
 use Rattle.rules.specs.declared.refusal.Refusal.TheVariants as refusal
 use Rattle.rules.specs.declared.report.Report.{Report}
-use Rattle.rules.specs.Rack.{Sizes, Rack, opened}
+use Rattle.rules.specs.declared.rack.Sizes.{Sizes}
+use Rattle.rules.specs.Rack.{Rack, opened}
 use Rattle.rules.specs.Choosers.{Meaning}
 use Rattle.rules.specs.Calls.{Outcome, openable, open', book, step, drive, collect, drop', back}
 use Rattle.rules.specs.History.{Event, Reaches}

@@ -12,7 +12,8 @@ use Rattle.rules.specs.declared.ticket.Phase.TheVariants.{Forward, Backing, With
 use Rattle.rules.specs.declared.report.Action.{Action}
 use Rattle.rules.specs.declared.report.Action.TheVariants as action
 use Rattle.rules.specs.Lists.{unit, total, count_of, find, edit}
-use Rattle.rules.specs.Rack.{Sizes, Rack, soft, named, is_vacant, holds, cells_of, cells, row_of, put, has_vacant}
+use Rattle.rules.specs.declared.rack.Sizes.{Sizes}
+use Rattle.rules.specs.Rack.{Rack, soft, named, is_vacant, holds, cells_of, cells, row_of, put, has_vacant}
 use Rattle.rules.specs.Step.{ahead, duty, action_of, retreats, with_phase, with_marks, sets_out, wiped, after, column_of, row_told, slots_after, acted}
 use Rattle.rules.specs.History.{Fair}
 use Rattle.rules.specs.Ledger.{covers}

@@ -8,7 +8,8 @@ use Rattle.rules.specs.declared.ticket.Ticket.{Ticket}
 use Rattle.rules.specs.declared.ticket.Phase.{Phase}
 use Rattle.rules.specs.declared.ticket.Phase.TheVariants.{Forward, Backing, Without, Granted, Out, Closing}
 use Rattle.rules.specs.Lists.{total, find, edit}
-use Rattle.rules.specs.Rack.{Sizes, soft, seeking, named}
+use Rattle.rules.specs.declared.rack.Sizes.{Sizes}
+use Rattle.rules.specs.Rack.{soft, seeking, named}
 use Rattle.rules.specs.Step.{duty, after, with_phase}
 use Rattle.rules.specs.Calls.{withdrawn}
 use Rattle.rules.proofs.Listing.{total_edit, total_le}

@@ -6,7 +6,8 @@ use Rattle.rules.specs.declared.ticket.Phase.{Phase}
 use Rattle.rules.specs.declared.ticket.Phase.TheVariants.{Forward, Backing, Without, Granted, Out, Closing}
 use Rattle.rules.specs.declared.report.Action.{Action}
 use Rattle.rules.specs.declared.report.Action.TheVariants as action
-use Rattle.rules.specs.Rack.{Sizes, soft}
+use Rattle.rules.specs.declared.rack.Sizes.{Sizes}
+use Rattle.rules.specs.Rack.{soft}
 use Rattle.rules.specs.Step.{retreats, duty}
 
 -- of a soft ticket

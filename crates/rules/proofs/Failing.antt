@@ -9,7 +9,8 @@ use Rattle.rules.specs.declared.refusal.Refusal.TheVariants as refusal
 use Rattle.rules.specs.Lists.{find}
 use Rattle.rules.specs.Rack.{Rack, soft, named}
 use Rattle.rules.specs.Step.{led, blocked, passed_to, walk, last_of, due_for, due}
-use Rattle.rules.specs.Choosers.{Asked, Meaning, lowest_row}
+use Rattle.rules.specs.declared.asked.Asked.{Asked}
+use Rattle.rules.specs.Choosers.{Meaning, lowest_row}
 use Rattle.rules.specs.Calls.{Ran, Moved, still, step, steps, drive, drive_with}
 use Rattle.rules.specs.History.{Event}
 use Rattle.rules.specs.Play.{Call, Told, recalling, reporting, turned}

@@ -11,7 +11,8 @@ use Rattle.rules.specs.declared.ticket.Phase.TheVariants.{Forward, Backing, With
 use Rattle.rules.specs.declared.report.Action.{Action}
 use Rattle.rules.specs.declared.report.Action.TheVariants as action
 use Rattle.rules.specs.Lists.{unit, total, count_of, find, edit}
-use Rattle.rules.specs.Rack.{Sizes, Rack, opened, soft, seeking, named, is_vacant, holds, has_vacant}
+use Rattle.rules.specs.declared.rack.Sizes.{Sizes}
+use Rattle.rules.specs.Rack.{Rack, opened, soft, seeking, named, is_vacant, holds, has_vacant}
 use Rattle.rules.specs.Step.{ahead, retreats, duty, action_of, with_phase, with_marks, sets_out, redirect, wiped, after, worked, acted}
 use Rattle.rules.specs.Calls.{within, openable, booked, ticket_for, changed, withdrawn, returned}
 use Rattle.rules.specs.History.{Event, Reaches, New}

@@ -2,7 +2,8 @@
 use Rattle.std.proofs.Common.{◌≡◌, ℕ, zero, suc, ◌+◌, ◌-◌, ◌<◌, ◌≤◌, min, Bool, true, false, cond, ◌&&◌, ◌||◌, eqb, leb, ◌⊎◌, List, Some, None, Option, sym, refl, ap, ◌∙◌, subst, inl, inr, arith}
 use Rattle.std.proofs.lemmas.List.{length-set, get_or-set_same, get_or-set_other}
 use Rattle.std.proofs.lemmas.Bool.{and_parts, or_parts, or_cases, leb-true, leb-false, eqb-true, eqb-false, both_ways, cases_order}
-use Rattle.rules.specs.Choosers.{Asked, bit, vacant_in, Lawful, first_row, lowest_row, staying_row, most_picks, tally_of, least_from, evening_row, picked, lowest, staying, evening, SomeVacant, PicksLowest, PicksStaying, PicksEvening, AddsOne, LowestSays, StayingSays, EveningSays}
+use Rattle.rules.specs.declared.asked.Asked.{Asked}
+use Rattle.rules.specs.Choosers.{bit, vacant_in, Lawful, first_row, lowest_row, staying_row, most_picks, tally_of, least_from, evening_row, picked, lowest, staying, evening, SomeVacant, PicksLowest, PicksStaying, PicksEvening, AddsOne, LowestSays, StayingSays, EveningSays}
 use Rattle.rules.proofs.Listing.{some_inj, some_none}
 
 -- a vacant row is one of the rows 1 to 16

@@ -16,9 +16,11 @@ use Rattle.rules.specs.declared.refusal.Refusal.{Refusal}
 use Rattle.rules.specs.declared.refusal.Refusal.TheVariants as refusal
 use Rattle.rules.specs.Words.{stage_of}
 use Rattle.rules.specs.Lists.{find}
-use Rattle.rules.specs.Rack.{Sizes, Rack, soft, named, cells, has_vacant}
+use Rattle.rules.specs.declared.rack.Sizes.{Sizes}
+use Rattle.rules.specs.Rack.{Rack, soft, named, cells, has_vacant}
 use Rattle.rules.specs.Step.{ahead, duty, worked, due_for, due, report_of, acted}
-use Rattle.rules.specs.Choosers.{Asked, Meaning, Lawful, asked}
+use Rattle.rules.specs.declared.asked.Asked.{Asked}
+use Rattle.rules.specs.Choosers.{Meaning, Lawful, asked}
 use Rattle.rules.specs.Calls.{Outcome, Ran, Moved, within, admission, book_with, book, at_ticket, collect_at, collect, drop_at, drop', back_at, back, stage_found, stage_at, still, row_for, held_after, step_with, step, onward, steps, drive_with, drive}
 use Rattle.rules.specs.History.{Event, Fair, Accepts, New, Reaches}
 use Rattle.rules.specs.Laws.{LawsHold}

@@ -7,7 +7,8 @@ use Rattle.rules.specs.declared.ticket.Phase.TheVariants.{Forward, Backing, With
 use Rattle.rules.specs.declared.report.Action.{Action}
 use Rattle.rules.specs.declared.report.Action.TheVariants as action
 use Rattle.rules.specs.Lists.{total}
-use Rattle.rules.specs.Rack.{Sizes, soft}
+use Rattle.rules.specs.declared.rack.Sizes.{Sizes}
+use Rattle.rules.specs.Rack.{soft}
 use Rattle.rules.specs.Step.{duty, after}
 use Rattle.rules.proofs.Duties.{Says, says}
 use Rattle.rules.specs.Sound.{Shape, Fit}

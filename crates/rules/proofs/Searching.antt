@@ -2,7 +2,7 @@
 use Rattle.std.proofs.Common.{◌≡◌, ℕ, zero, suc, ◌+◌, ◌-◌, ◌<◌, ◌≤◌, Bool, true, false, cond, ◌&&◌, ltb, ◌⊎◌, List, Some, None, Option, refl, ap, subst, inl, inr, arith}
 use Rattle.std.proofs.lemmas.Bool.{ltb-true, ltb-false, cases_lt, cases_order}
 use Rattle.rules.specs.declared.ticket.Request.{Request}
-use Rattle.rules.specs.Rack.{Sizes}
+use Rattle.rules.specs.declared.rack.Sizes.{Sizes}
 use Rattle.rules.specs.Ledger.{Entry, load_of, Full, Gives, GivesNone, Answers, roomy, first_fit, LedgerGivesOneAnswer, SearchFindsTheLedgersAnswer}
 
 module _ (z : Sizes) (es : List Entry) where

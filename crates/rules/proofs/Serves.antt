@@ -8,7 +8,8 @@ use Rattle.rules.specs.declared.ticket.Phase.TheVariants.{Forward, Backing, With
 use Rattle.rules.specs.declared.report.Action.{Action}
 use Rattle.rules.specs.declared.report.Action.TheVariants as action
 use Rattle.rules.specs.Lists.{find, edit}
-use Rattle.rules.specs.Rack.{Sizes, Rack, soft, named, cells, has_vacant}
+use Rattle.rules.specs.declared.rack.Sizes.{Sizes}
+use Rattle.rules.specs.Rack.{Rack, soft, named, cells, has_vacant}
 use Rattle.rules.specs.Step.{ahead, retreats, action_of, with_phase, with_marks, sets_out, wiped, after, worked}
 use Rattle.rules.specs.History.{Event, Fair, Reaches}
 use Rattle.rules.specs.Laws.{Served, AStepIsAlwaysServed, NothingWraps}

@@ -9,7 +9,8 @@ use Rattle.std.specs.List.{AllByRecursion}
 use Rattle.rules.specs.declared.ticket.Ticket.{Ticket}
 use Rattle.rules.specs.declared.ticket.Phase.{Phase}
 use Rattle.rules.specs.declared.ticket.Phase.TheVariants.{Forward, Backing, Without, Granted, Out, Closing}
-use Rattle.rules.specs.Rack.{Sizes, Rack}
+use Rattle.rules.specs.declared.rack.Sizes.{Sizes}
+use Rattle.rules.specs.Rack.{Rack}
 use Rattle.rules.specs.Sound.{Rising, Shape, Fit, Agree, Sound, Reached}
 use Rattle.rules.proofs.Kept.{sound}
 

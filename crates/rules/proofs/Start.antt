@@ -9,7 +9,8 @@ use Rattle.rules.specs.declared.ticket.Ticket.{Ticket}
 use Rattle.rules.specs.declared.ticket.Phase.{Phase}
 use Rattle.rules.specs.declared.ticket.Phase.TheVariants.{Forward, Backing, Without, Granted, Out, Closing}
 use Rattle.rules.specs.Lists.{total}
-use Rattle.rules.specs.Rack.{Sizes, Rack, seeking}
+use Rattle.rules.specs.declared.rack.Sizes.{Sizes}
+use Rattle.rules.specs.Rack.{Rack, seeking}
 use Rattle.rules.specs.Calls.{ticket_for}
 use Rattle.rules.specs.Laws.{longest_wait}
 use Rattle.rules.proofs.Listing.{In, total_append, total_in}

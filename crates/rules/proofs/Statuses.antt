@@ -9,7 +9,8 @@ use Rattle.rules.specs.declared.report.Action.{Action}
 use Rattle.rules.specs.declared.report.Action.TheVariants as action
 use Rattle.rules.specs.declared.report.Report.{Report}
 use Rattle.rules.specs.Lists.{unit, count_of, find}
-use Rattle.rules.specs.Rack.{Sizes, Rack, seeking, soft, hard, named, has_vacant}
+use Rattle.rules.specs.declared.rack.Sizes.{Sizes}
+use Rattle.rules.specs.Rack.{Rack, seeking, soft, hard, named, has_vacant}
 use Rattle.rules.specs.Step.{ahead, duty, action_of, after, with_phase, worked, report_of}
 use Rattle.rules.specs.Calls.{ticket_for, booked, withdrawn as after_drop}
 use Rattle.rules.specs.History.{Event, New, Reaches}

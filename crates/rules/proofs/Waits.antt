@@ -12,7 +12,8 @@ use Rattle.rules.specs.declared.report.Action.{Action}
 use Rattle.rules.specs.declared.report.Action.TheVariants as action
 use Rattle.rules.specs.Words.{is_grant, is_without}
 use Rattle.rules.specs.Lists.{find, edit}
-use Rattle.rules.specs.Rack.{Sizes, Rack, seeking, soft, named, has_vacant}
+use Rattle.rules.specs.declared.rack.Sizes.{Sizes}
+use Rattle.rules.specs.Rack.{Rack, seeking, soft, named, has_vacant}
 use Rattle.rules.specs.Step.{ahead, worked, action_of, with_phase, with_marks, sets_out, redirect, wiped, after, acted}
 use Rattle.rules.specs.Calls.{ticket_for, booked, withdrawn}
 use Rattle.rules.specs.History.{Event, Reaches}

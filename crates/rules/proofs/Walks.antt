@@ -6,7 +6,8 @@ use Rattle.rules.specs.declared.ticket.Ticket.{Ticket}
 use Rattle.rules.specs.declared.ticket.Phase.{Phase}
 use Rattle.rules.specs.declared.ticket.Phase.TheVariants.{Forward, Backing, Without, Granted, Out, Closing}
 use Rattle.rules.specs.Lists.{unit, find, or_else, count_of}
-use Rattle.rules.specs.Rack.{Sizes, Rack, soft, hard, named, has_vacant, is_wall, has_mark, oldest, holder}
+use Rattle.rules.specs.declared.rack.Sizes.{Sizes}
+use Rattle.rules.specs.Rack.{Rack, soft, hard, named, has_vacant, is_wall, has_mark, oldest, holder}
 use Rattle.rules.specs.Step.{led, is_forward, ahead, past, blocked, passed_to, walk, last_of, met, worked}
 use Rattle.rules.proofs.Listing.{In, find_in, find_some, all_in, some_none, some_inj}
 use Rattle.rules.proofs.Tickets.{find_own, first_lowest}

@@ -11,7 +11,8 @@ use Rattle.rules.specs.declared.ticket.Phase.TheVariants.{Forward, Backing, With
 use Rattle.rules.specs.declared.report.Action.{Action}
 use Rattle.rules.specs.declared.report.Action.TheVariants as action
 use Rattle.rules.specs.Lists.{unit, total, find, edit}
-use Rattle.rules.specs.Rack.{Sizes, Rack, soft, hard, seeking, named, has_vacant}
+use Rattle.rules.specs.declared.rack.Sizes.{Sizes}
+use Rattle.rules.specs.Rack.{Rack, soft, hard, seeking, named, has_vacant}
 use Rattle.rules.specs.Step.{ahead, worked, duty, action_of, after, acted, with_phase}
 use Rattle.rules.specs.Calls.{ticket_for, booked, changed, withdrawn, returned}
 use Rattle.rules.specs.History.{Event, Reaches}

@@ -13,7 +13,8 @@ use Rattle.rules.specs.declared.report.Action.{Action}
 use Rattle.rules.specs.declared.report.Action.TheVariants as action
 use Rattle.rules.specs.Words.{is_mark}
 use Rattle.rules.specs.Lists.{unit, any_of, count_of, find}
-use Rattle.rules.specs.Rack.{Sizes, Rack, soft, hard, named, is_vacant, holds, is_booked, cells_of, cells, has_vacant, row_of, put}
+use Rattle.rules.specs.declared.rack.Sizes.{Sizes}
+use Rattle.rules.specs.Rack.{Rack, soft, hard, named, is_vacant, holds, is_booked, cells_of, cells, has_vacant, row_of, put}
 use Rattle.rules.specs.Step.{ahead, duty, action_of, after, with_phase, column_of, row_told, slots_after, worked, report_of, acted}
 use Rattle.rules.specs.Calls.{ticket_for, booked, withdrawn}
 use Rattle.rules.specs.History.{Event, Fair, Reaches}

@@ -12,7 +12,8 @@ use Rattle.rules.specs.declared.refusal.Refusal.{Refusal}
 use Rattle.rules.specs.declared.refusal.Refusal.TheVariants as refusal
 use Rattle.rules.specs.Words.{stage_of, is_mark}
 use Rattle.rules.specs.Lists.{find, edit, count_of}
-use Rattle.rules.specs.Rack.{Sizes, Rack, opened, named, is_vacant, cells, row_of, with}
+use Rattle.rules.specs.declared.rack.Sizes.{Sizes}
+use Rattle.rules.specs.Rack.{Rack, opened, named, is_vacant, cells, row_of, with}
 use Rattle.rules.specs.Step.{due, action_of, report_of, acted, with_phase}
 use Rattle.rules.specs.Choosers.{Meaning, asked}
 

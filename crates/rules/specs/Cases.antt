@@ -9,8 +9,10 @@ use Rattle.rules.specs.declared.report.Action.TheVariants as action
 use Rattle.rules.specs.declared.report.Report.{Report}
 use Rattle.rules.specs.declared.refusal.Refusal.{Refusal}
 use Rattle.rules.specs.declared.refusal.Refusal.TheVariants as refusal
-use Rattle.rules.specs.Rack.{Sizes, Rack, never_opened}
-use Rattle.rules.specs.Choosers.{Asked, lowest, staying, evening}
+use Rattle.rules.specs.declared.rack.Sizes.{Sizes}
+use Rattle.rules.specs.Rack.{Rack, never_opened}
+use Rattle.rules.specs.declared.asked.Asked.{Asked}
+use Rattle.rules.specs.Choosers.{lowest, staying, evening}
 use Rattle.rules.specs.Calls as calls
 use Rattle.rules.specs.Calls.{Outcome}
 use Rattle.rules.specs.Play.{Call}

@@ -1,17 +1,11 @@
 -- Row choosers: what one is told, what it means, and the meanings of lowest, staying and evening.
 use Rattle.std.specs.Prelude.{◌≡◌, ℕ, zero, suc, ◌+◌, ◌-◌, ◌*◌, ◌/◌, ◌%◌, ◌<◌, ◌≤◌, min, Bool, true, false, cond, ◌&&◌, ◌||◌, List, [], ◌∷◌, length, Some, None, Option, ◌==◌, ◌≢◌, nat_le, slice_index, slice_set}
+use Rattle.rules.specs.declared.asked.Asked.{Asked}
 use Rattle.rules.specs.declared.slot.Slot.{Slot}
 use Rattle.rules.specs.declared.ticket.Ticket.{Ticket}
 use Rattle.rules.specs.Lists.{unit}
 use Rattle.rules.specs.Rack.{Rack, is_vacant, cells, row_of}
 use Rattle.rules.specs.Step.{ahead}
-
--- what a chooser is told: the column's vacant rows as a mask, row 1 in bit 0; the column; and the row of the ticket's own mark one
--- column to the left, if it has one
-pub record Asked : Type 0 where
-  pub mask : ℕ
-  pub column : ℕ
-  pub left : Option ℕ
 
 -- what a chooser that holds an S means: the row it would pick, and what it then holds
 pub record Meaning (S : Type 0) : Type 0 where

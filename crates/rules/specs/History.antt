@@ -5,7 +5,8 @@ use Rattle.rules.specs.declared.ticket.Request.{Request}
 use Rattle.rules.specs.declared.ticket.Ticket.{Ticket}
 use Rattle.rules.specs.declared.report.Action.TheVariants as action
 use Rattle.rules.specs.declared.report.Report.{Report}
-use Rattle.rules.specs.Rack.{Sizes, Rack, opened, cells}
+use Rattle.rules.specs.declared.rack.Sizes.{Sizes}
+use Rattle.rules.specs.Rack.{Rack, opened, cells}
 use Rattle.rules.specs.Step.{ahead, due, action_of, report_of, acted}
 use Rattle.rules.specs.Choosers.{mask_of, vacant_in}
 use Rattle.rules.specs.Calls.{openable, admission, booked, collect, drop', back}

@@ -7,7 +7,8 @@ use Rattle.rules.specs.declared.report.Action.{Action}
 use Rattle.rules.specs.declared.report.Action.TheVariants as action
 use Rattle.rules.specs.declared.report.Report.{Report}
 use Rattle.rules.specs.Lists.{unit, any_of, count_of, find}
-use Rattle.rules.specs.Rack.{Sizes, Rack, seeking, soft, hard, named, is_booked, cells}
+use Rattle.rules.specs.declared.rack.Sizes.{Sizes}
+use Rattle.rules.specs.Rack.{Rack, seeking, soft, hard, named, is_booked, cells}
 use Rattle.rules.specs.Step.{blocked, met, worked, due, acted}
 use Rattle.rules.specs.Calls.{last_number}
 use Rattle.rules.specs.History.{Event, Fair, Reaches}

@@ -6,7 +6,7 @@ use Rattle.rules.specs.declared.report.Action.{Action}
 use Rattle.rules.specs.declared.report.Action.TheVariants as action
 use Rattle.rules.specs.declared.report.Report.{Report}
 use Rattle.rules.specs.Lists.{count_of}
-use Rattle.rules.specs.Rack.{Sizes}
+use Rattle.rules.specs.declared.rack.Sizes.{Sizes}
 use Rattle.rules.specs.History.{Event}
 
 -- a span in the ledger, with the number of its booking

@@ -6,7 +6,8 @@ use Rattle.rules.specs.declared.ticket.Stage.{Stage}
 use Rattle.rules.specs.declared.ticket.Stage.TheVariants as stage
 use Rattle.rules.specs.declared.refusal.Refusal.{Refusal}
 use Rattle.rules.specs.Rack.{Rack}
-use Rattle.rules.specs.Choosers.{Asked, Meaning, Lawful}
+use Rattle.rules.specs.declared.asked.Asked.{Asked}
+use Rattle.rules.specs.Choosers.{Meaning, Lawful}
 use Rattle.rules.specs.Calls.{Outcome, Moved, book, step, drive, collect, drop', back}
 use Rattle.rules.specs.History.{Event, New, Reaches}
 use Rattle.rules.specs.Laws.{reported, Holds}

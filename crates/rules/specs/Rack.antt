@@ -1,18 +1,12 @@
 -- The rack: its sizes, the tickets in use and the slots, and what a column shows.
 use Rattle.std.specs.Prelude.{ℕ, suc, ◌+◌, ◌-◌, ◌*◌, Bool, true, false, cond, ◌&&◌, List, [], ◌∷◌, take, drop, replicate, Option, ◌==◌, slice_set}
+use Rattle.rules.specs.declared.rack.Sizes.{Sizes}
 use Rattle.rules.specs.declared.slot.Slot.{Slot}
 use Rattle.rules.specs.declared.slot.Slot.TheVariants.{Vacant, Marked}
 use Rattle.rules.specs.declared.ticket.Ticket.{Ticket}
 use Rattle.rules.specs.declared.ticket.Phase.{Phase}
 use Rattle.rules.specs.declared.ticket.Phase.TheVariants.{Forward, Backing, Without, Granted, Out, Closing}
 use Rattle.rules.specs.Lists.{any_of, all_of, find}
-
--- what an opening fixes: rows, columns, places for tickets, and the lead, by which a step may run ahead of the oldest soft ticket
-pub record Sizes : Type 0 where
-  pub rows : ℕ
-  pub columns : ℕ
-  pub places : ℕ
-  pub lead : ℕ
 
 -- first is the number of the first booking, next the number of the next one; handbacks counts the grants handed back.
 -- tickets are those in use, in rising order of their numbers: a place that no ticket has is idle.

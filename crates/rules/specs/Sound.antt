@@ -6,7 +6,8 @@ use Rattle.rules.specs.declared.ticket.Ticket.{Ticket}
 use Rattle.rules.specs.declared.ticket.Phase.{Phase}
 use Rattle.rules.specs.declared.ticket.Phase.TheVariants.{Forward, Backing, Without, Granted, Out, Closing}
 use Rattle.rules.specs.Lists.{unit, total, count_of}
-use Rattle.rules.specs.Rack.{Sizes, Rack, hard, named, is_vacant, holds, cells}
+use Rattle.rules.specs.declared.rack.Sizes.{Sizes}
+use Rattle.rules.specs.Rack.{Rack, hard, named, is_vacant, holds, cells}
 use Rattle.rules.specs.Calls.{last_number, openable}
 use Rattle.rules.specs.Ledger.{covers}
 use Rattle.rules.specs.History.{Event, Reaches}

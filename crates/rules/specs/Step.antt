@@ -11,7 +11,8 @@ use Rattle.rules.specs.declared.report.Report.{Report}
 use Rattle.rules.specs.declared.refusal.Refusal.{Refusal}
 use Rattle.rules.specs.declared.refusal.Refusal.TheVariants as refusal
 use Rattle.rules.specs.Lists.{find, or_else, edit}
-use Rattle.rules.specs.Rack.{Sizes, Rack, soft, named, cells, has_vacant, is_wall, oldest, holder, row_of, put, with}
+use Rattle.rules.specs.declared.rack.Sizes.{Sizes}
+use Rattle.rules.specs.Rack.{Rack, soft, named, cells, has_vacant, is_wall, oldest, holder, row_of, put, with}
 
 -- Rule 1. A step that names s works on the oldest soft ticket, if s is more than the lead ahead of it; otherwise on s
 abbrev pub led : Rack → Ticket → Ticket

@@ -9,7 +9,8 @@ use Rattle.rules.specs.declared.report.Report.{Report}
 use Rattle.rules.specs.declared.refusal.Refusal.{Refusal}
 use Rattle.rules.specs.declared.refusal.Refusal.TheVariants as refusal
 use Rattle.rules.specs.Lists.{any_of, all_of, find, edit}
-use Rattle.rules.specs.Rack.{Sizes, Rack, opened, seeking, soft, hard, named, cells, has_vacant, is_wall, with}
+use Rattle.rules.specs.declared.rack.Sizes.{Sizes}
+use Rattle.rules.specs.Rack.{Rack, opened, seeking, soft, hard, named, cells, has_vacant, is_wall, with}
 use Rattle.rules.specs.Step.{led, is_forward, ahead, past, passed_to, duty, action_of, after, column_of, row_told, slots_after}
 use Rattle.rules.specs.Choosers.{asked, lowest_row}
 use Rattle.rules.specs.Calls.{Outcome, openable, book, accepted, at, changed, collect, withdrawn, drop_at, returned, back_at}

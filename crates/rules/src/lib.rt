@@ -2,7 +2,9 @@
 //! what holds after every list of calls (laws, proved in proofs/).
 #![tactic(auto)]
 
+pub mod asked;
 pub mod laws;
+pub mod rack;
 pub mod refusal;
 pub mod report;
 pub mod slot;

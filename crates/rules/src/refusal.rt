@@ -6,31 +6,31 @@ ghost use Rattle.rules.specs.Words.{refusal_number};
 #[derive(Clone, Copy, PartialEq, Eq, Debug)]
 pub enum Refusal {
     /// An opening outside its limits.
-    Limits,
+    Limits = 1,
     /// A length outside its limits, or columns outside the board or the window.
-    Columns,
+    Columns = 2,
     /// The numbers are used up.
-    Numbers,
+    Numbers = 3,
     /// No place is idle.
-    Places,
+    Places = 4,
     /// No ticket has that number.
-    Unknown,
+    Unknown = 5,
     /// The ticket is in another stage.
-    Stage,
+    Stage = 6,
     /// A journal or a list is full.
-    Full,
+    Full = 7,
     /// The first field is no known word.
-    Verb,
+    Verb = 8,
     /// Too few or too many fields.
-    Fields,
+    Fields = 9,
     /// A field is no figure.
-    Figure,
+    Figure = 10,
     /// The line is too long, or its line feed is not where it should be.
-    Line,
+    Line = 11,
     /// The page is too short.
-    Page,
+    Page = 12,
     /// A sheet's figure is outside its limits.
-    Grant,
+    Grant = 13,
 }
 
 impl Refusal {
@@ -38,20 +38,6 @@ impl Refusal {
     pub fn number(self) -> u32
         ensures { result ≡ refusal_number self }
     {
-        match self {
-            Refusal::Limits => 1,
-            Refusal::Columns => 2,
-            Refusal::Numbers => 3,
-            Refusal::Places => 4,
-            Refusal::Unknown => 5,
-            Refusal::Stage => 6,
-            Refusal::Full => 7,
-            Refusal::Verb => 8,
-            Refusal::Fields => 9,
-            Refusal::Figure => 10,
-            Refusal::Line => 11,
-            Refusal::Page => 12,
-            Refusal::Grant => 13,
-        }
+        self as u32
     }
 }

@@ -6,17 +6,17 @@ ghost use Rattle.rules.specs.Words.{action_number};
 #[derive(Clone, Copy, PartialEq, Eq, Debug)]
 pub enum Action {
     /// The last mark becomes vacant.
-    Wipe,
+    Wipe = 1,
     /// The search starts over, since slots were handed back after it began.
-    Over,
+    Over = 2,
     /// The booking is decided: no window.
-    Without,
+    Without = 3,
     /// The booking is decided: it has its window.
-    Grant,
+    Grant = 4,
     /// A vacant slot of the next column gets a mark.
-    Mark,
+    Mark = 5,
     /// The next column is a wall: the search goes on behind it.
-    Wall,
+    Wall = 6,
 }
 
 impl Action {
@@ -24,14 +24,7 @@ impl Action {
     pub fn number(self) -> u32
         ensures { result ≡ action_number self }
     {
-        match self {
-            Action::Wipe => 1,
-            Action::Over => 2,
-            Action::Without => 3,
-            Action::Grant => 4,
-            Action::Mark => 5,
-            Action::Wall => 6,
-        }
+        self as u32
     }
 }
 

@@ -123,10 +123,6 @@ impl Ranked for Ticket {
     ghost transitive = { Prim.search rules };
 
     fn stands_before(&self, other: &Self) -> bool {
-        if self.phase.is_soft() == other.phase.is_soft() {
-            self.number <= other.number
-        } else {
-            self.phase.is_soft()
-        }
+        (!self.phase.is_soft(), self.number) <= (!other.phase.is_soft(), other.number)
     }
 }

@@ -8,7 +8,8 @@ use Rattle.rules.specs.declared.refusal.Refusal.TheVariants as refusal
 use Rattle.rules.specs.declared.ticket.Ticket.{Ticket}
 use Rattle.rules.specs.declared.ticket.Phase.{Phase}
 use Rattle.rules.specs.declared.ticket.Phase.TheVariants.{Forward, Backing, Without, Granted, Out, Closing}
-use Rattle.rules.specs.Rack.{Sizes, Rack}
+use Rattle.rules.specs.declared.rack.Sizes.{Sizes}
+use Rattle.rules.specs.Rack.{Rack}
 use Rattle.rules.specs.Sound.{Rising, Shape, Fit, Reached}
 use Rattle.rules.proofs.Settled.{reached_sound}
 use Rattle.rules.proofs.Tickets.{rising_top}

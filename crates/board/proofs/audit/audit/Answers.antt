@@ -2,7 +2,7 @@ use Rattle.std.proofs.Common.{◌≡◌, ℕ, ◌+◌, Ok, Err, Result, sym, ref
 use Rattle.std.proofs.lemmas.Result.{err_from_is_err_and}
 use Rattle.lists.specs.Reading.{contents_of}
 use Rattle.rules.specs.declared.refusal.Refusal.{Refusal}
-use Rattle.rules.specs.Rack.{Sizes}
+use Rattle.rules.specs.declared.rack.Sizes.{Sizes}
 use Rattle.rules.specs.Calls.{open'}
 use Rattle.board.specs.declared.audit.Accounts.{Accounts}
 use Rattle.board.specs.Face.{rack_in}

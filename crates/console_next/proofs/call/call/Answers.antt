@@ -1,6 +1,6 @@
 use Rattle.std.proofs.Common.{sym, ◌∙◌, subst}
 use Rattle.lists.specs.Reading.{contents_of}
-use Rattle.rules.specs.Rack.{Sizes}
+use Rattle.rules.specs.declared.rack.Sizes.{Sizes}
 use Rattle.board.specs.Face.{rack_in}
 use Rattle.console_next.specs.declared.order.Order.{Order}
 use Rattle.console_next.specs.Calls.{called, Continues}

@@ -1,4 +1,4 @@
-use Rattle.rules.specs.Rack.{Sizes}
+use Rattle.rules.specs.declared.rack.Sizes.{Sizes}
 use Rattle.board.specs.Reading.{rack_of}
 use Rattle.board.proofs.Promising.{open_reaches, open_reached}
 use Rattle.board.proofs.board.Board.open.Goals as goal

@@ -1,6 +1,7 @@
 use Rattle.std.proofs.Common.{ℕ, Some, sym, ap, ◌∙◌}
 use Rattle.std.proofs.lemmas.Bool.{cond-false}
-use Rattle.rules.specs.Choosers.{Asked, picked}
+use Rattle.rules.specs.declared.asked.Asked.{Asked}
+use Rattle.rules.specs.Choosers.{picked}
 use Rattle.board.specs.declared.evening.Evening.{Evening}
 use Rattle.board.proofs.Rows.{some_vacant}
 use Rattle.board.proofs.LeastPicked.{evening_row_lem}

@@ -1,5 +1,5 @@
 use Rattle.std.proofs.Common.{◌≡◌, ◌*◌, true, vec_items, sym, ◌∙◌, arith}
-use Rattle.rules.specs.Rack.{Sizes}
+use Rattle.rules.specs.declared.rack.Sizes.{Sizes}
 use Rattle.rules.specs.Calls.{openable}
 use Rattle.board.specs.Reading.{rack_of}
 use Rattle.board.proofs.Opening.{limits, area_most, filled, sized, opened_answer, opened_rack}
