@@ -1,7 +1,8 @@
 -- The search for the foremost entry finds one that leads: where the test is an order there is one, and any that leads is the one found.
-use Rattle.std.proofs.Common.{◌≡◌, ℕ, zero, suc, ◌<◌, Bool, true, false, not, List, [], ◌∷◌, length, get_or, Some, sym, refl, ap, subst, ⊎_elim, arith}
+use Rattle.std.proofs.Common.{◌≡◌, ℕ, zero, suc, ◌+◌, ◌-◌, ◌<◌, Bool, true, false, not, List, [], ◌∷◌, length, get_or, take, drop, Some, sym, refl, ap, ◌∙◌, subst, ⊎_elim, arith}
 use Rattle.std.proofs.lemmas.List.MinMax.{IsStrictWeakOrder-from_at_least, IsFirstBest-from_best_of}
-use Rattle.std.proofs.lemmas.List.{get_or_default}
+use Rattle.std.proofs.lemmas.Grind.{get_or_after_one}
+use Rattle.std.proofs.lemmas.List.{get_or_default, get_or-take}
 use Rattle.std.proofs.lemmas.Bool.{and_from, and_parts, not-true, not-false, cases_Bool, both_ways}
 use Rattle.std.specs.Option.{option_map}
 use Rattle.std.specs.List.{IsFirstBest, list_all}
@@ -27,6 +28,10 @@ module _ {X : Type 0} (test : X → Bool) where
   first_where_is (x ∷ xs) (suc i) l h f =
       rw (f 0 x (omega arith))
       (ap (option_map suc) (first_where_is xs i (omega arith) h (λ k d m. f (suc k) d (omega arith))))
+
+-- the entries behind the first, by place
+pub after_first : {X : Type 0} (xs : List X) (i : ℕ) (d : X) → i + 1 < length xs → get_or (take (length xs - 1) (drop 1 xs)) i d ≡ get_or xs (i + 1) d
+after_first xs i d l = get_or-take (length xs - 1) (drop 1 xs) i d (omega arith) ∙ (get_or_after_one xs i d ∙ ap (λ n. get_or xs n d) (omega arith))
 
 module _ {X : Type 0} (before : X → X → Bool) where
   -- an entry that leads is the one that is found

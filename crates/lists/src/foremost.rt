@@ -25,9 +25,9 @@ pub fn foremost<T: Ranked>(list: &[T]) -> Option<usize>
         return None;
     }
     let mut best = 0;
-    for i in 1..list.len() {
-        if !list[best].stands_before(&list[i]) {
-            best = i;
+    for (i, entry) in list[1..].iter().enumerate() {
+        if !list[best].stands_before(entry) {
+            best = i + 1;
         }
     }
     Some(best)

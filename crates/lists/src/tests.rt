@@ -21,11 +21,7 @@ impl Ranked for Key {
     ghost transitive = { Prim.search rules };
 
     fn stands_before(&self, other: &Self) -> bool {
-        if self.soft == other.soft {
-            self.number <= other.number
-        } else {
-            self.soft
-        }
+        (!self.soft, self.number) <= (!other.soft, other.number)
     }
 }
 
@@ -44,7 +40,7 @@ impl Ranked for Tally {
     ghost transitive = { Prim.search rules };
 
     fn stands_before(&self, other: &Self) -> bool {
-        self.count < other.count || self.count == other.count && self.row <= other.row
+        (self.count, self.row) <= (other.count, other.row)
     }
 }
 
