@@ -13,7 +13,7 @@ use Rattle.board.specs.declared.tables.Tables.{Tables}
 abbrev pub rack_of : Tables → Rack
 rack_of b =
     record {
-      sizes = record { rows = b.rows; columns = b.columns; places = b.places; lead = b.lead };
+      sizes = b.sizes;
       first = b.first;
       next = b.next;
       handbacks = b.handbacks;

@@ -15,6 +15,7 @@ use crate::chooser::Chooser;
 use crate::look::row_of;
 use crate::tables::Tables;
 use crate::walk::Spot;
+use rules::asked::Asked;
 use rules::report::{Action, Report};
 use rules::slot::Slot;
 use rules::ticket::{Phase, Ticket};
@@ -134,10 +135,10 @@ impl Tables {
     }
 
     fn put_slot(&mut self, column: u32, row: u32, slot: Slot)
-        requires { (column < self.old.columns) × ((1 ≤ row) × (row ≤ self.old.rows)) }
-        ensures { rack_of self.new ≡ with_lists (rack_of self.old) (rack_of self.old).tickets (put_in self.old.rows (rack_of self.old).slots column row slot) }
+        requires { (column < self.old.sizes.columns) × ((1 ≤ row) × (row ≤ self.old.sizes.rows)) }
+        ensures { rack_of self.new ≡ with_lists (rack_of self.old) (rack_of self.old).tickets (put_in self.old.sizes.rows (rack_of self.old).slots column row slot) }
     {
-        let at = column as usize * self.rows as usize + (row as usize - 1);
+        let at = column as usize * self.sizes.rows as usize + (row as usize - 1);
         self.slots[at] = slot;
     }
 
@@ -200,7 +201,7 @@ impl Tables {
 impl Tables {
     /// The row of the ticket's own mark one column to the left of the next, if it has one.
     fn left_row(&self, t: Ticket) -> Option<u32>
-        requires { t.first + t.marks ≤ self.now.columns }
+        requires { t.first + t.marks ≤ self.now.sizes.columns }
         ensures { result ≡ (asked (rack_of self.now) t).left }
     {
         if t.marks == 0 {
@@ -212,15 +213,19 @@ impl Tables {
     /// The row that the chooser picks for a mark in the column ahead, which has a vacant one.
     fn pick<C: Chooser>(&self, t: Ticket, mask: u16, chooser: &mut C) -> u32
         requires sound { Sound (rack_of self.now) }
-        requires inside { ahead t < self.now.columns }
+        requires inside { ahead t < self.now.sizes.columns }
         requires mask { mask ≡ mask_of (cells_in (rack_of self.now) (ahead t)) }
         requires vacant { mask ≢ 0 }
         ensures row { result ≡ row_for C.Chooser.meaning (rack_of self.now) t chooser.old }
         ensures held { chooser.new ≡ C.Chooser.meaning.then chooser.old (asked (rack_of self.now) t) }
-        ensures within { (1 ≤ result) × (result ≤ self.now.rows) }
+        ensures within { (1 ≤ result) × (result ≤ self.now.sizes.rows) }
     {
-        let left = self.left_row(t);
-        match chooser.choose(mask, t.first + t.marks, left) {
+        let asked = Asked {
+            mask,
+            column: t.first + t.marks,
+            left: self.left_row(t),
+        };
+        match chooser.choose(asked) {
             Some(row) => row,
             None => unreachable(),
         }

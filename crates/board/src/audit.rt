@@ -10,6 +10,7 @@ ghost use Rattle.board.specs.Audit.{is_drop, turned, used, counted_on, audited, 
 use crate::board::Board;
 use crate::chooser::Chooser;
 use lists::journal::Journal;
+use rules::rack::Sizes;
 use rules::refusal::Refusal;
 use rules::report::Report;
 use rules::ticket::{Phase, Request, Ticket};
@@ -121,22 +122,19 @@ fn accounts_on(board: &Board, withdrawn: u32) -> Accounts
 /// their reports into the one journal, which is never emptied.
 pub fn audit<C: Chooser>(
     board: &mut Board,
-    rows: u32,
-    columns: u32,
-    places: u32,
-    lead: u32,
+    sizes: Sizes,
     first: u32,
     turns: &mut [Turn<C>],
     journal: &mut Journal<Report>,
 ) -> Result<Accounts, Refusal>
-    ensures answer { result ≡ (audited C.Chooser.meaning (rack_in board.old) (record { rows = rows; columns = columns; places = places; lead = lead }) first (contents_of journal.old) turns.old).answer }
-    ensures rack { rack_in board.new ≡ (audited C.Chooser.meaning (rack_in board.old) (record { rows = rows; columns = columns; places = places; lead = lead }) first (contents_of journal.old) turns.old).rack }
-    ensures turns { turns.new ≡ (audited C.Chooser.meaning (rack_in board.old) (record { rows = rows; columns = columns; places = places; lead = lead }) first (contents_of journal.old) turns.old).turns }
-    ensures journal { contents_of journal.new ≡ (audited C.Chooser.meaning (rack_in board.old) (record { rows = rows; columns = columns; places = places; lead = lead }) first (contents_of journal.old) turns.old).journal }
+    ensures answer { result ≡ (audited C.Chooser.meaning (rack_in board.old) sizes first (contents_of journal.old) turns.old).answer }
+    ensures rack { rack_in board.new ≡ (audited C.Chooser.meaning (rack_in board.old) sizes first (contents_of journal.old) turns.old).rack }
+    ensures turns { turns.new ≡ (audited C.Chooser.meaning (rack_in board.old) sizes first (contents_of journal.old) turns.old).turns }
+    ensures journal { contents_of journal.new ≡ (audited C.Chooser.meaning (rack_in board.old) sizes first (contents_of journal.old) turns.old).journal }
     ensures place { journal.new.slots.ghost_name ≡ journal.old.slots.ghost_name }
-    ensures history { (a : Accounts) → result ≡ Ok a → Accounted (history_of C.Chooser.meaning (record { rows = rows; columns = columns; places = places; lead = lead }) first (contents_of journal.old) turns.old) (rack_in board.new) a }
+    ensures history { (a : Accounts) → result ≡ Ok a → Accounted (history_of C.Chooser.meaning sizes first (contents_of journal.old) turns.old) (rack_in board.new) a }
 {
-    board.open(rows, columns, places, lead, first)?;
+    board.open(sizes, first)?;
     let mut withdrawn = 0;
     for turn in turns.iter_mut() {
         withdrawn += play(board, turn, journal);

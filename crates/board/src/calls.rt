@@ -1,7 +1,7 @@
 //! The calls on the tables, each by its definition.
 ghost use Rattle.std.specs.Prelude.{◌≡◌, ℕ, ◌+◌, ◌*◌, ◌<◌, ◌≤◌, true, not, length, Ok, Err};
 ghost use Rattle.rules.specs.Rack.{is_vacant};
-ghost use Rattle.rules.specs.Calls.{within as in_range, openable as can_open, open' as open_call, admission as admitted, book as book_call, collect as collect_call, drop' as drop_call, back as back_call, row as row_call, show as show_call, stage_at, withdrawn as after_drop};
+ghost use Rattle.rules.specs.Calls.{openable as can_open, open' as open_call, admission as admitted, book as book_call, collect as collect_call, drop' as drop_call, back as back_call, row as row_call, show as show_call, stage_at, withdrawn as after_drop};
 ghost use Rattle.rules.specs.Lists.{unit, count_of};
 ghost use Rattle.rules.specs.Sound.{Rising, Sound};
 ghost use Rattle.board.specs.Reading.{rack_of, Named};
@@ -9,29 +9,23 @@ ghost use Rattle.board.specs.Acting.{list_of};
 
 use crate::look::{place_of, row_of};
 use crate::tables::Tables;
+use rules::rack::{
+    LAST_FIRST, LAST_NUMBER, LONGEST, MOST_COLUMNS, MOST_LEAD, MOST_PLACES, MOST_ROWS, Sizes,
+};
 use rules::refusal::Refusal;
 use rules::slot::Slot;
 use rules::span::Span;
 use rules::ticket::{Phase, Request, Stage, Ticket};
 
-/// The largest number of a booking.
-const LAST_NUMBER: u32 = 2_000_000_000;
-
-fn within(low: u32, high: u32, n: u32) -> bool
-    ensures { result ≡ in_range low high n }
-{
-    low <= n && n <= high
-}
-
 /// The limits of an opening.
-fn openable(rows: u32, columns: u32, places: u32, lead: u32, first: u32) -> bool
-    ensures { result ≡ can_open (record { rows = rows; columns = columns; places = places; lead = lead }) first }
+fn openable(sizes: Sizes, first: u32) -> bool
+    ensures { result ≡ can_open sizes first }
 {
-    within(1, 16, rows)
-        && within(1, 256, columns)
-        && within(1, 64, places)
-        && within(0, 64, lead)
-        && within(1, 1_000_000_000, first)
+    (1..=MOST_ROWS).contains(&sizes.rows)
+        && (1..=MOST_COLUMNS).contains(&sizes.columns)
+        && (1..=MOST_PLACES).contains(&sizes.places)
+        && (0..=MOST_LEAD).contains(&sizes.lead)
+        && (1..=LAST_FIRST).contains(&first)
 }
 
 /// What a ticket becomes when its booking is withdrawn: it leaves, if it has no mark.
@@ -48,29 +42,19 @@ fn withdrawn(t: Ticket) -> Option<Ticket>
 }
 
 impl Tables {
-    pub(crate) fn open(
-        &mut self,
-        rows: u32,
-        columns: u32,
-        places: u32,
-        lead: u32,
-        first: u32,
-    ) -> Result<(), Refusal>
-        ensures answer { result ≡ (open_call (rack_of self.old) (record { rows = rows; columns = columns; places = places; lead = lead }) first).answer }
-        ensures rack { rack_of self.new ≡ (open_call (rack_of self.old) (record { rows = rows; columns = columns; places = places; lead = lead }) first).rack }
+    pub(crate) fn open(&mut self, sizes: Sizes, first: u32) -> Result<(), Refusal>
+        ensures answer { result ≡ (open_call (rack_of self.old) sizes first).answer }
+        ensures rack { rack_of self.new ≡ (open_call (rack_of self.old) sizes first).rack }
     {
-        if !openable(rows, columns, places, lead, first) {
+        if !openable(sizes, first) {
             return Err(Refusal::Limits);
         }
         self.tickets.clear();
         self.slots.clear();
         let _ = self
             .slots
-            .resize(columns as usize * rows as usize, Slot::Vacant);
-        self.rows = rows;
-        self.columns = columns;
-        self.places = places;
-        self.lead = lead;
+            .resize(sizes.columns as usize * sizes.rows as usize, Slot::Vacant);
+        self.sizes = sizes;
         self.first = first;
         self.next = first;
         self.handbacks = 0;
@@ -81,13 +65,13 @@ impl Tables {
         ensures { result ≡ admitted (rack_of self.now) request }
     {
         let end = u64::from(request.start) + u64::from(request.length);
-        if !(within(1, 64, request.length) && end <= u64::from(self.columns)) {
+        if !((1..=LONGEST).contains(&request.length) && end <= u64::from(self.sizes.columns)) {
             return Some(Refusal::Columns);
         }
         if self.next > LAST_NUMBER {
             return Some(Refusal::Numbers);
         }
-        if self.tickets.len() >= self.places as usize {
+        if self.tickets.len() >= self.sizes.places as usize {
             return Some(Refusal::Places);
         }
         None
@@ -237,7 +221,7 @@ impl Tables {
     pub(crate) fn show(&self, column: u32) -> Result<u32, Refusal>
         ensures { result ≡ show_call (rack_of self.now) column }
     {
-        if column >= self.columns {
+        if column >= self.sizes.columns {
             return Err(Refusal::Columns);
         }
         Ok(marks_among(self.cells(column)))

@@ -8,6 +8,7 @@ use crate::chooser::Chooser;
 use crate::mask::vacant_in;
 use crate::tally::RowTally;
 use lists::foremost::foremost;
+use rules::asked::Asked;
 
 /// Picks the vacant row that it has picked least often, the lower one on ties. A tally stops at
 /// 65,535.
@@ -67,8 +68,8 @@ impl Chooser for Evening {
 
     ghost lawful = { λ s q row e. evening_lawful s.tallies q row e };
 
-    fn choose(&mut self, vacant: u16, column: u32, left: Option<u32>) -> Option<u32> {
-        let row = self.least_picked(vacant)?;
+    fn choose(&mut self, asked: Asked) -> Option<u32> {
+        let row = self.least_picked(asked.mask)?;
         self.add_pick(row);
         Some(row)
     }

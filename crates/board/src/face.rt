@@ -10,6 +10,7 @@ ghost use Rattle.board.specs.Face.{rack_in};
 use crate::board::Board;
 use crate::chooser::Chooser;
 use crate::tables::Tables;
+use rules::rack::{MOST_COLUMNS, MOST_PLACES, MOST_ROWS, Sizes};
 use rules::refusal::Refusal;
 use rules::report::Report;
 use rules::slot::Slot;
@@ -17,9 +18,7 @@ use rules::span::Span;
 use rules::ticket::{Request, Stage, Ticket};
 use std::alloc::{AllocError, Global};
 
-const MOST_PLACES: usize = 64;
-
-const MOST_SLOTS: usize = 4096;
+const MOST_SLOTS: usize = MOST_COLUMNS as usize * MOST_ROWS as usize;
 
 impl Board {
     /// A board never opened, with memory for the largest one: nothing else here allocates.
@@ -27,14 +26,16 @@ impl Board {
         ensures rack { IfOk result (λ b. rack_in b ≡ never_opened) }
         ensures history { IfOk result (λ b. Reaches [] (rack_in b)) }
     {
-        let tickets = Vec::with_capacity(heap, MOST_PLACES)?;
+        let tickets = Vec::with_capacity(heap, MOST_PLACES as usize)?;
         let mut slots = Vec::with_capacity(heap, MOST_SLOTS)?;
         slots.push_reserved(Slot::Vacant);
         let tables = Tables {
-            rows: 1,
-            columns: 1,
-            places: 1,
-            lead: 0,
+            sizes: Sizes {
+                rows: 1,
+                columns: 1,
+                places: 1,
+                lead: 0,
+            },
             first: 1,
             next: 1,
             handbacks: 0,
@@ -45,19 +46,12 @@ impl Board {
     }
 
     /// Opens the board anew, whatever stood on it, and starts a new list of calls.
-    pub fn open(
-        &mut self,
-        rows: u32,
-        columns: u32,
-        places: u32,
-        lead: u32,
-        first: u32,
-    ) -> Result<(), Refusal>
-        ensures answer { result ≡ (open_call (rack_in self.old) (record { rows = rows; columns = columns; places = places; lead = lead }) first).answer }
-        ensures rack { rack_in self.new ≡ (open_call (rack_in self.old) (record { rows = rows; columns = columns; places = places; lead = lead }) first).rack }
+    pub fn open(&mut self, sizes: Sizes, first: u32) -> Result<(), Refusal>
+        ensures answer { result ≡ (open_call (rack_in self.old) sizes first).answer }
+        ensures rack { rack_in self.new ≡ (open_call (rack_in self.old) sizes first).rack }
         ensures history { result ≡ Ok tt → Reaches [] (rack_in self.new) }
     {
-        self.tables.open(rows, columns, places, lead, first)
+        self.tables.open(sizes, first)
     }
 
     /// Books adjacent columns from a start on, and answers the booking's number.

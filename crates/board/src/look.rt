@@ -74,17 +74,17 @@ pub(crate) fn marks_in(ticket: Ticket, column: u32) -> bool
 impl Tables {
     /// The slots of a column, row 1 first.
     pub(crate) fn cells(&self, column: u32) -> &[Slot]
-        requires { column < self.now.columns }
+        requires { column < self.now.sizes.columns }
         ensures is { result.now ≡ cells_in (rack_of self.now) column }
-        ensures tall { length result.now ≡ self.now.rows }
+        ensures tall { length result.now ≡ self.now.sizes.rows }
     {
-        let rows = self.rows as usize;
+        let rows = self.sizes.rows as usize;
         let from = column as usize * rows;
         &self.slots[from..from + rows]
     }
 
     pub(crate) fn vacancies(&self, column: u32) -> u16
-        requires { column < self.now.columns }
+        requires { column < self.now.sizes.columns }
         ensures { result ≡ mask_of (cells_in (rack_of self.now) column) }
     {
         vacancy_mask(self.cells(column))

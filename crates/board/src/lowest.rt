@@ -4,6 +4,7 @@ ghost use Rattle.rules.proofs.Picks.{lowest_lawful};
 
 use crate::chooser::Chooser;
 use crate::mask::lowest_in;
+use rules::asked::Asked;
 
 /// Picks the lowest vacant row.
 #[derive(Clone, Copy)]
@@ -14,7 +15,7 @@ impl Chooser for Lowest {
 
     ghost lawful = { λ s q row e. lowest_lawful s q row e };
 
-    fn choose(&mut self, vacant: u16, column: u32, left: Option<u32>) -> Option<u32> {
-        lowest_in(vacant)
+    fn choose(&mut self, asked: Asked) -> Option<u32> {
+        lowest_in(asked.mask)
     }
 }

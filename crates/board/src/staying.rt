@@ -4,6 +4,7 @@ ghost use Rattle.rules.proofs.Picks.{staying_lawful};
 
 use crate::chooser::Chooser;
 use crate::mask::{lowest_in, vacant_in};
+use rules::asked::Asked;
 
 /// Picks the row to the left if that is vacant, else the lowest vacant row.
 #[derive(Clone, Copy)]
@@ -14,10 +15,10 @@ impl Chooser for Staying {
 
     ghost lawful = { λ s q row e. staying_lawful s q row e };
 
-    fn choose(&mut self, vacant: u16, column: u32, left: Option<u32>) -> Option<u32> {
-        match left {
-            Some(row) if vacant_in(vacant, row) => Some(row),
-            _ => lowest_in(vacant),
+    fn choose(&mut self, asked: Asked) -> Option<u32> {
+        match asked.left {
+            Some(row) if vacant_in(asked.mask, row) => Some(row),
+            _ => lowest_in(asked.mask),
         }
     }
 }

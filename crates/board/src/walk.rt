@@ -89,7 +89,7 @@ impl Tables {
     pub(crate) fn is_past(&self, t: Ticket) -> bool
         ensures { result ≡ past (rack_of self.now).sizes t }
     {
-        u64::from(t.first) + u64::from(t.request.length) > u64::from(self.columns)
+        u64::from(t.first) + u64::from(t.request.length) > u64::from(self.sizes.columns)
     }
 
     fn looks(&self, t: Ticket) -> bool
@@ -116,7 +116,7 @@ impl Tables {
             return Look { mask, holder: None };
         }
         let crowd = crowd_in(&self.tickets, column);
-        if crowd.booked >= self.rows {
+        if crowd.booked >= self.sizes.rows {
             return Look { mask, holder: None };
         }
         Look {
@@ -132,11 +132,11 @@ impl Tables {
         requires sound { Sound (rack_of self.now) }
         requires within { from < vec_len self.now.tickets }
         ensures within { result.place < vec_len self.now.tickets }
-        ensures is { ticket_at (rack_of self.now) result.place ≡ walk_end (suc self.now.columns) (rack_of self.now) (ticket_at (rack_of self.now) from) }
+        ensures is { ticket_at (rack_of self.now) result.place ≡ walk_end (suc self.now.sizes.columns) (rack_of self.now) (ticket_at (rack_of self.now) from) }
         ensures mask { result.mask ≡ mask_seen (rack_of self.now) (ticket_at (rack_of self.now) result.place) }
     {
         let mut place = from;
-        for _turn in 0..self.columns + 1 {
+        for _turn in 0..self.sizes.columns + 1 {
             let look = self.look(self.ticket(place));
             match look.holder {
                 Some(next) => place = next,
@@ -157,9 +157,9 @@ impl Tables {
 impl Tables {
     /// The first ticket is more than the lead ahead of the second.
     fn runs_ahead(&self, t: Ticket, oldest: Ticket) -> bool
-        ensures { result ≡ nat_lt self.now.lead (t.number - oldest.number) }
+        ensures { result ≡ nat_lt self.now.sizes.lead (t.number - oldest.number) }
     {
-        t.number.saturating_sub(oldest.number) > self.lead
+        t.number.saturating_sub(oldest.number) > self.sizes.lead
     }
 
     /// Rule 1: the place of the oldest soft ticket, if the one at this place is more than the lead

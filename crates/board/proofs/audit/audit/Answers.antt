@@ -2,7 +2,6 @@ use Rattle.std.proofs.Common.{◌≡◌, ℕ, ◌+◌, Ok, Err, Result, sym, ref
 use Rattle.std.proofs.lemmas.Result.{err_from_is_err_and}
 use Rattle.lists.specs.Reading.{contents_of}
 use Rattle.rules.specs.declared.refusal.Refusal.{Refusal}
-use Rattle.rules.specs.declared.rack.Sizes.{Sizes}
 use Rattle.rules.specs.Calls.{open'}
 use Rattle.board.specs.declared.audit.Accounts.{Accounts}
 use Rattle.board.specs.Face.{rack_in}
@@ -12,7 +11,7 @@ use Rattle.board.proofs.audit.audit.Goals as goal
 pub returns-in_err-open : goal.returns-in_err-open
 returns-in_err-open g c =
     let x = rack_in c.args.board.now in
-    let z : Sizes = record { rows = c.args.rows; columns = c.args.columns; places = c.args.places; lead = c.args.lead } in
+    let z = c.args.sizes in
     let p = err_from_is_err_and c.from_residual.result c.from_residual.ensures.1 in
     let h = c.in_err-open.ensures in
     let o = not_opened x z c.args.first _ h.answer in
@@ -33,7 +32,7 @@ returns-in_err-open g c =
 pub loop-turn-init : goal.loop-turn-init
 loop-turn-init g c =
     let h = c.in_ok-open.ensures in
-    let z : Sizes = record { rows = c.args.rows; columns = c.args.columns; places = c.args.places; lead = c.args.lead } in (
+    let z = c.args.sizes in (
       leaves_none g.C.Chooser.meaning (rack_in c.args.board.now) z c.args.first (contents_of c.args.journal.now) c.args.turns.now
           (rack_in c.open.new.self) h.answer h.rack (h.history refl),
       refl,
@@ -63,7 +62,7 @@ accounts_on-requires g c = let k = c.loop-turn.invariant.0 in enough k.0 (rack_i
 pub returns : goal.returns
 returns g c =
     let h = c.in_ok-open.ensures in
-    let z : Sizes = record { rows = c.args.rows; columns = c.args.columns; places = c.args.places; lead = c.args.lead } in
+    let z = c.args.sizes in
     let e = audit_ends g.C.Chooser.meaning (rack_in c.args.board.now) z c.args.first (contents_of c.args.journal.now) c.args.turns.now
     (rack_in c.loop-turn.board) (contents_of c.loop-turn.journal) c.loop-turn.withdrawn c.loop-turn.turns c.loop-turn.turn-index c.accounts_on.result
     h.answer c.accounts_on.ensures (omega arith) c.loop-turn.invariant.0 in

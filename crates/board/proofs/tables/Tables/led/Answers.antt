@@ -16,7 +16,7 @@ returns-then-runs_ahead c =
     let o = oldest_at r c.requires.sound c.args.i c.in-Some.oldest (omega arith) c.requires.is_soft l in
     let a = ap (λ (t : Ticket). t.number) c.ticket.ensures in
     let b = ap (λ (t : Ticket). t.number) c.ticket-2.ensures in
-    let k = ltb-true c.args.self.now.lead (c.ticket.result.number - c.ticket-2.result.number) (sym c.if-runs_ahead.ensures) in
+    let k = ltb-true c.args.self.now.sizes.lead (c.ticket.result.number - c.ticket-2.result.number) (sym c.if-runs_ahead.ensures) in
     record { within = omega arith; is = led_oldest r (ticket_at r c.args.i) (ticket_at r c.in-Some.oldest) o (omega arith) }
 
 pub returns-else-runs_ahead : goal.returns-else-runs_ahead
@@ -28,5 +28,5 @@ returns-else-runs_ahead c =
     let o = oldest_at r c.requires.sound c.args.i c.in-Some.oldest (omega arith) c.requires.is_soft l in
     let a = ap (λ (t : Ticket). t.number) c.ticket.ensures in
     let b = ap (λ (t : Ticket). t.number) c.ticket-2.ensures in
-    let k = ltb-false c.args.self.now.lead (c.ticket.result.number - c.ticket-2.result.number) (sym c.if-runs_ahead.ensures) in
+    let k = ltb-false c.args.self.now.sizes.lead (c.ticket.result.number - c.ticket-2.result.number) (sym c.if-runs_ahead.ensures) in
     record { within = p; is = led_named r (ticket_at r c.args.i) (ticket_at r c.in-Some.oldest) o (omega arith) }

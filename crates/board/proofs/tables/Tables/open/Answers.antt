@@ -1,5 +1,4 @@
 use Rattle.std.proofs.Common.{◌≡◌, ◌*◌, true, vec_items, sym, ◌∙◌, arith}
-use Rattle.rules.specs.declared.rack.Sizes.{Sizes}
 use Rattle.rules.specs.Calls.{openable}
 use Rattle.board.specs.Reading.{rack_of}
 use Rattle.board.proofs.Opening.{limits, area_most, filled, sized, opened_answer, opened_rack}
@@ -7,7 +6,7 @@ use Rattle.board.proofs.tables.Tables.open.Goals as goal
 
 pub invariant_of-self : goal.invariant_of-self
 invariant_of-self c =
-    let z : Sizes = record { rows = c.args.rows; columns = c.args.columns; places = c.args.places; lead = c.args.lead } in
+    let z = c.args.sizes in
     let e : openable z c.args.first ≡ true = sym c.openable.ensures ∙ c.if-not-openable.false in
     let l = limits z c.args.first e in
     let m = area_most z c.args.first l in
@@ -20,7 +19,7 @@ invariant_of-self c =
 
 pub returns : goal.returns
 returns c =
-    let z : Sizes = record { rows = c.args.rows; columns = c.args.columns; places = c.args.places; lead = c.args.lead } in
+    let z = c.args.sizes in
     let e : openable z c.args.first ≡ true = sym c.openable.ensures ∙ c.if-not-openable.false in
     let l = limits z c.args.first e in
     let m = area_most z c.args.first l in

@@ -7,11 +7,11 @@ returns g c =
     let m = g.C.Chooser.meaning in
     let r = rack_of c.args.self.now in
     let e = picked_row m g.met.C.Chooser.lawful r c.requires.sound c.args.t c.args.chooser.now c.requires.inside c.args.mask c.requires.mask c.requires.vacant
-    c.left_row-left.result c.left_row-left.ensures c.in-Some.row c.in-Some.ensures.answer in
+    c.left_row.result c.left_row.ensures c.in-Some.row c.in-Some.ensures.answer in
     record {
       row = e;
       held = picked_held m g.met.C.Chooser.lawful r c.requires.sound c.args.t c.args.chooser.now c.requires.inside c.args.mask c.requires.mask c.requires.vacant
-          c.left_row-left.result c.left_row-left.ensures _ c.in-Some.ensures.held;
+          c.left_row.result c.left_row.ensures _ c.in-Some.ensures.held;
       within = picked_within m g.met.C.Chooser.lawful r c.requires.sound c.args.t c.args.chooser.now c.requires.inside c.args.mask c.requires.mask c.requires.vacant
-          c.left_row-left.result c.left_row-left.ensures c.in-Some.row e;
+          c.left_row.result c.left_row.ensures c.in-Some.row e;
     }

@@ -6,7 +6,7 @@ use Rattle.board.proofs.tables.Tables.walk.Goals as goal
 pub loop-turn-init : goal.loop-turn-init
 loop-turn-init c =
     let r = rack_of c.args.self.now in
-    let z : suc c.args.self.now.columns - 0 ≡ suc c.args.self.now.columns = omega arith in
+    let z : suc c.args.self.now.sizes.columns - 0 ≡ suc c.args.self.now.sizes.columns = omega arith in
     (ap (λ (k : ℕ). walk_end k r (ticket_at r c.args.from)) z, c.requires.within)
 
 pub returns-in-None : goal.returns-in-None
@@ -24,18 +24,18 @@ loop-turn-preserved c =
     let n = c.loop-turn._turn in
     let t = c.loop-turn-test.true in
     let g = walk_goes r _ _ _ _ _ c.ticket.ensures c.look-look.ensures.passes c.loop-turn.invariant.0
-    (suc c.args.self.now.columns - (suc n)) c.in-Some.next (omega arith) c.in-Some.is in
-    let z : suc c.args.self.now.columns - suc n ≡ suc c.args.self.now.columns - (n + 1) = omega arith in
+    (suc c.args.self.now.sizes.columns - (suc n)) c.in-Some.next (omega arith) c.in-Some.is in
+    let z : suc c.args.self.now.sizes.columns - suc n ≡ suc c.args.self.now.sizes.columns - (n + 1) = omega arith in
     let l = g.1 in let v = c.args.self.now.tickets.ok.0 in
-    (subst (λ (k : ℕ). walk_end k r (ticket_at r c.in-Some.next) ≡ walk_end (suc c.args.self.now.columns) r (ticket_at r c.args.from)) z g.0, omega arith)
+    (subst (λ (k : ℕ). walk_end k r (ticket_at r c.in-Some.next) ≡ walk_end (suc c.args.self.now.sizes.columns) r (ticket_at r c.args.from)) z g.0, omega arith)
 
 pub returns : goal.returns
 returns c =
     let r = rack_of c.args.self.now in
     let t = c.loop-turn-test.false in
-    let z : suc c.args.self.now.columns - c.loop-turn._turn ≡ 0 = omega arith in
+    let z : suc c.args.self.now.sizes.columns - c.loop-turn._turn ≡ 0 = omega arith in
     record {
       within = c.loop-turn.invariant.1;
-      is = subst (λ (k : ℕ). walk_end k r (ticket_at r c.loop-turn.place) ≡ walk_end (suc c.args.self.now.columns) r (ticket_at r c.args.from)) z c.loop-turn.invariant.0;
+      is = subst (λ (k : ℕ). walk_end k r (ticket_at r c.loop-turn.place) ≡ walk_end (suc c.args.self.now.sizes.columns) r (ticket_at r c.args.from)) z c.loop-turn.invariant.0;
       mask = c.look-look-2.ensures.mask ∙ ap (mask_seen r) c.ticket-2.ensures;
     }

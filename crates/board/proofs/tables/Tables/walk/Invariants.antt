@@ -5,6 +5,6 @@ use Rattle.board.proofs.tables.Tables.walk.Given as goal
 -- what is left of the walk ends where the whole does
 abbrev pub invariant-loop-turn : goal.invariant-loop-turn
 invariant-loop-turn l =
-    (walk_end (suc l.self.columns - l._turn) (rack_of l.self) (ticket_at (rack_of l.self) l.place)
-    ≡ walk_end (suc l.self.columns) (rack_of l.self) (ticket_at (rack_of l.self) l.from))
+    (walk_end (suc l.self.sizes.columns - l._turn) (rack_of l.self) (ticket_at (rack_of l.self) l.place)
+    ≡ walk_end (suc l.self.sizes.columns) (rack_of l.self) (ticket_at (rack_of l.self) l.from))
     × (l.place < vec_len l.self.tickets)
