@@ -1,10 +1,11 @@
 -- Loops over the cells of a column: the mask, and the row of a mark.
-use Rattle.std.proofs.Common.{◌≡◌, ℕ, suc, ◌+◌, ◌-◌, ◌*◌, ◌^◌, ◌<◌, ◌≤◌, Bool, true, false, cond, eqb, List, [], ◌∷◌, length, get_or, drop, refl, ap, ◌∙◌, pow-suc, arith, length-drop, pow_mono}
-use Rattle.std.proofs.lemmas.List.{at_drop_more, at_drop_all}
+use Rattle.std.proofs.Common.{◌≡◌, ℕ, zero, suc, ◌+◌, ◌-◌, ◌*◌, ◌^◌, ◌%◌, ◌<◌, ◌≤◌, Bool, true, false, cond, eqb, List, [], ◌∷◌, length, get_or, take, drop, refl, ap, ◌∙◌, subst, pow-suc, arith, pow_mono}
+use Rattle.std.proofs.Math.Nat.{mod-eq_of_lt}
+use Rattle.std.proofs.lemmas.List.{at_drop_more, at_drop_all, length-take-le}
 use Rattle.std.proofs.lemmas.Bool.Decides.{nat_tests}
 use Rattle.rules.specs.declared.slot.Slot.{Slot}
 use Rattle.rules.specs.declared.slot.Slot.TheVariants.{Vacant}
-use Rattle.rules.specs.Lists.{unit, count_of}
+use Rattle.rules.specs.Lists.{unit}
 use Rattle.rules.specs.Rack.{is_vacant, holds, row_of}
 use Rattle.rules.specs.Choosers.{mask_of}
 
@@ -12,25 +13,40 @@ pub unit_most : (b : Bool) → unit b ≤ 1
 unit_most true = omega arith
 unit_most false = omega arith
 
-pub vacancy_small : {b : ℕ} (s : Slot) → b ≡ unit (is_vacant s) → b ≤ 1
-vacancy_small s e = omega (arith, unit_most (is_vacant s))
-
 mask_below : (ss : List Slot) → mask_of ss < 2 ^ length ss
 mask_below [] = omega arith
 mask_below (s ∷ ss) = rw (pow-suc 2 (length ss)) (omega (arith, mask_below ss, unit_most (is_vacant s)))
 
--- what is left past a cell is short enough to be doubled
-pub mask_small : (ss : List Slot) (i : ℕ) → length ss ≤ 16 → 0 < i → mask_of (drop i ss) < 32768
-mask_small ss i h l =
-    let b : length (drop i ss) ≤ 15 = simp length-drop (omega arith) in
-    omega (arith, mask_below (drop i ss), pow_mono b)
+-- the first i cells, and one more
+mask_upto : (ss : List Slot) (i : ℕ) (d : Slot) (b : Bool) → i < length ss → b ≡ is_vacant (get_or ss i d) → mask_of (take (suc i) ss) ≡ mask_of (take i ss) + unit b * 2 ^ i
+mask_upto [] i d b l e = absurd (omega arith)
+mask_upto (s ∷ ss) zero d b l e = rw e (omega arith)
+mask_upto (s ∷ ss) (suc i) d true l e = rw (pow-suc 2 i) (omega (arith, mask_upto ss i d true (omega arith) e))
+mask_upto (s ∷ ss) (suc i) d false l e = omega (arith, mask_upto ss i d false (omega arith) e)
 
-pub mask_more : (ss : List Slot) (i : ℕ) (d : Slot) (b m : ℕ) → 0 < i → i ≤ length ss → b ≡ unit (is_vacant (get_or ss (i - 1) d)) → m ≡ mask_of (drop i ss) → b + 2 * m ≡ mask_of (drop (i - 1) ss)
-mask_more ss i d b m l h p q =
-    let e : (i - 1) + 1 ≡ i = omega arith in
-    let f = at_drop_more mask_of ss (i - 1) d (omega arith) in
-    let g = ap (λ n. unit (is_vacant (get_or ss (i - 1) d)) + 2 * mask_of (drop n ss)) e in
-    cc
+module _ (ss : List Slot) (i m : ℕ) (l : i < length ss) (short : length ss ≤ 16) (e : m ≡ mask_of (take i ss)) where
+  power : 2 ^ i ≤ 32768
+  power = pow_mono {i = i} {j = 15} (omega arith)
+
+  one_bit : 1 * 2 ^ i % 65536 ≡ 2 ^ i
+  one_bit = let p = power in ap (λ n. n % 65536) (omega arith) ∙ mod-eq_of_lt (omega arith)
+
+  below : m < 2 ^ i
+  below =
+      let k : length (take i ss) ≡ i = length-take-le i ss (omega arith) in
+      rw e (subst (λ n. mask_of (take i ss) < 2 ^ n) k (mask_below (take i ss)))
+
+  next : i + 1 ≡ suc i
+  next = omega arith
+
+  pub mask_fits : m + 1 * 2 ^ i % 65536 < 65536
+  mask_fits = let p = power in let b = below in rw one_bit (omega arith)
+
+  pub mask_vacant : (d : Slot) → true ≡ is_vacant (get_or ss i d) → m + 1 * 2 ^ i % 65536 ≡ mask_of (take (i + 1) ss)
+  mask_vacant d v = rw (one_bit, next) (omega (arith, mask_upto ss i d true l v))
+
+  pub mask_marked : (d : Slot) → false ≡ is_vacant (get_or ss i d) → m ≡ mask_of (take (i + 1) ss)
+  mask_marked d v = rw next (omega (arith, mask_upto ss i d false l v))
 
 -- the row found among the cells from i on, counted from the top
 abbrev pub shifted : ℕ → ℕ → ℕ
@@ -56,15 +72,3 @@ row_end n ss i h = at_drop_all (λ l. shifted i (row_of n l)) ss i h
 
 pub row_start : (n : ℕ) → shifted 0 n ≡ n
 row_start n = grind (arith, nat_tests)
-
--- how many cells before i pass, and how many of those left
-pub count_more : (p : Slot → Bool) (ss : List Slot) (i b n : ℕ) → i < length ss → n ≡ unit (p (get_or ss i Vacant))
-    → (b + count_of p (drop i ss) ≡ count_of p ss) × (b ≤ i) → (b + n + count_of p (drop (i + 1) ss) ≡ count_of p ss) × (b + n ≤ i + 1)
-count_more p ss i b n h e k =
-    let d = at_drop_more (count_of p) ss i Vacant h in
-    let u = unit_most (p (get_or ss i Vacant)) in
-    let a = k.0 in let l = k.1 in
-    (omega arith, omega arith)
-
-pub count_all : (p : Slot → Bool) (ss : List Slot) (i b : ℕ) → length ss ≤ i → b + count_of p (drop i ss) ≡ count_of p ss → b ≡ count_of p ss
-count_all p ss i b h e = let d = at_drop_all (count_of p) ss i h in omega arith

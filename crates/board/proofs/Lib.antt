@@ -1,6 +1,6 @@
 pub mod Columns
+pub mod Counting
 pub mod Places
-pub mod Crowds
 pub mod Looking
 pub mod Walking
 pub mod Leading

@@ -1,24 +1,47 @@
 -- Tickets by place: a search of the list, and a change at a place.
-use Rattle.std.proofs.Common.{◌≡◌, ℕ, zero, suc, ◌+◌, ◌<◌, ◌≤◌, Bool, true, false, List, [], ◌∷◌, ◌++◌, length, get_or, take, drop, set, Some, None, sym, refl, ap, ◌∙◌, subst, inl, inr, arith}
-use Rattle.std.proofs.lemmas.List.{at_drop_more, at_drop_all}
-use Rattle.std.proofs.lemmas.Bool.{cond-true, cond-false, eq-eqb, ne_eqb}
+use Rattle.std.proofs.Common.{◌≡◌, ℕ, zero, suc, ◌+◌, ◌<◌, ◌≤◌, Bool, true, false, cond, ltb, List, [], ◌∷◌, ◌++◌, length, get_or, take, drop, set, Some, None, Option, sym, refl, ap, ◌∙◌, subst, inl, inr, arith}
+use Rattle.std.proofs.lemmas.List.Folds.{find_at}
+use Rattle.std.specs.List.{find as found_first, position, position_or_len, slice_get}
+use Rattle.std.proofs.lemmas.Bool.{cond-true, cond-false, eq-eqb, ne_eqb, ltb-true, ltb-false}
 use Rattle.rules.specs.declared.ticket.Ticket.{Ticket}
 use Rattle.rules.specs.Lists.{find, edit}
 use Rattle.rules.specs.Rack.{named}
 use Rattle.rules.specs.Sound.{Rising}
 use Rattle.rules.proofs.Listing.{In}
 use Rattle.rules.proofs.Tickets.{rising_low}
-use Rattle.board.specs.Reading.{no_ticket}
+use Rattle.board.specs.Reading.{no_ticket, Placed}
 
-module _ (p : Ticket → Bool) (ts : List Ticket) (i : ℕ) where
-  pub find_hit : i < length ts → find p ts ≡ find p (drop i ts) → p (get_or ts i no_ticket) ≡ true → (i < length ts) × (find p ts ≡ Some (get_or ts i no_ticket))
-  find_hit h k q = (h, k ∙ (at_drop_more (find p) ts i no_ticket h ∙ cond-true (p (get_or ts i no_ticket)) (Some (get_or ts i no_ticket)) (find p (drop (i + 1) ts)) q))
+-- the place that the library's search answers
+module _ (p : Ticket → Bool) where
+  same_find : (ts : List Ticket) → find p ts ≡ found_first p ts
+  same_find [] = refl
+  same_find (t ∷ ts) = ap (λ (o : Option Ticket). cond (p t) (Some t) o) (same_find ts)
 
-  pub find_miss : i < length ts → find p ts ≡ find p (drop i ts) → p (get_or ts i no_ticket) ≡ false → find p ts ≡ find p (drop (i + 1) ts)
-  find_miss h k q = k ∙ (at_drop_more (find p) ts i no_ticket h ∙ cond-false (p (get_or ts i no_ticket)) (Some (get_or ts i no_ticket)) (find p (drop (i + 1) ts)) q)
+  got : (ts : List Ticket) (n : ℕ) → n < length ts → slice_get ts n ≡ Some (get_or ts n no_ticket)
+  got [] n h = absurd (omega arith)
+  got (t ∷ ts) zero h = refl
+  got (t ∷ ts) (suc n) h = got ts n (omega arith)
 
-  pub find_end : length ts ≤ i → find p ts ≡ find p (drop i ts) → find p ts ≡ None
-  find_end h k = k ∙ at_drop_all (find p) ts i h
+  missed : (ts : List Ticket) (n : ℕ) → length ts ≤ n → slice_get ts n ≡ None
+  missed [] n h = refl
+  missed (t ∷ ts) zero h = absurd (omega arith)
+  missed (t ∷ ts) (suc n) h = missed ts n (omega arith)
+
+  placed_by : (ts : List Ticket) (b : Bool) → ltb (position_or_len p ts) (length ts) ≡ b → Placed p ts (cond b (Some (position_or_len p ts)) None)
+  placed_by ts true e =
+      let l = ltb-true (position_or_len p ts) (length ts) e in
+      (l, same_find ts ∙ (find_at p ts ∙ got ts (position_or_len p ts) l))
+  placed_by ts false e = same_find ts ∙ (find_at p ts ∙ missed ts (position_or_len p ts) (ltb-false (position_or_len p ts) (length ts) e))
+
+  pub placed : (ts : List Ticket) (o : Option ℕ) → o ≡ position p ts → Placed p ts o
+  placed ts o e = subst (Placed p ts) (sym e) (placed_by ts (ltb (position_or_len p ts) (length ts)) refl)
+
+-- the ticket that a number names, by its place
+pub named_some : (n : ℕ) (ts : List Ticket) (i : ℕ) → Some i ≡ position (named n) ts → (i < length ts) × (find (named n) ts ≡ Some (get_or ts i no_ticket))
+named_some n ts i e = placed (named n) ts (Some i) e
+
+pub named_none : (n : ℕ) (ts : List Ticket) → None ≡ position (named n) ts → find (named n) ts ≡ None
+named_none n ts e = placed (named n) ts None e
 
 pub at_in : (ts : List Ticket) (i : ℕ) → i < length ts → In (get_or ts i no_ticket) ts
 at_in [] i h = absurd (omega arith)

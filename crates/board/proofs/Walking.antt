@@ -3,7 +3,9 @@ use Rattle.std.proofs.Common.{◌≡◌, ℕ, zero, suc, ◌<◌, Bool, true, fa
 use Rattle.rules.specs.declared.ticket.Ticket.{Ticket}
 use Rattle.rules.specs.declared.refusal.Refusal.{Refusal}
 use Rattle.rules.specs.Rack.{Rack, soft}
-use Rattle.rules.specs.Step.{blocked, passed_to, walk, last_of, led, worked, due}
+use Rattle.rules.specs.Step.{blocked, passed_to, walk, last_of, led, worked, due, report_of, acted}
+use Rattle.rules.specs.Choosers.{Meaning}
+use Rattle.rules.specs.Calls.{row_for, step, step_with}
 use Rattle.rules.specs.Sound.{Sound}
 use Rattle.rules.proofs.Effects.{due_names, found_own}
 use Rattle.rules.proofs.Walks.{works}
@@ -56,3 +58,11 @@ due_soft r sd n t d =
     let k = due_names r n t d in
     let o = found_own r.tickets n k.0 k.1 in
     subst (λ (u : Ticket). soft u.phase ≡ true) k.3 (works r sd k.0 o.1 k.2).is_soft
+
+-- a step of the ticket that is due does its action
+module _ {S : Type 0} (m : Meaning S) (r : Rack) (n : ℕ) (t : Ticket) (s : S) (d : due r n ≡ Ok t) where
+  pub step_answer : (step m r n s).answer ≡ Ok (report_of r t (row_for m r t s))
+  step_answer = ap (λ o. (step_with m r s o).answer) d
+
+  pub step_rack : (step m r n s).ran.rack ≡ acted r t (row_for m r t s)
+  step_rack = ap (λ o. (step_with m r s o).ran.rack) d

@@ -1,22 +1,21 @@
 //! What the ticket that a step works on does: rule 3.
-ghost use Rattle.std.specs.Prelude.{◌≡◌, ℕ, suc, ◌+◌, ◌-◌, ◌*◌, ◌<◌, ◌≤◌, true, false, [], ◌∷◌, ◌++◌, length, take, drop, vec_len, ◌≢◌, slice_set};
+ghost use Rattle.std.specs.Prelude.{◌≡◌, ℕ, ◌+◌, ◌-◌, ◌*◌, ◌<◌, ◌≤◌, true, ◌∷◌, ◌++◌, length, take, drop, vec_len, ◌≢◌, slice_set};
 ghost use Rattle.rules.specs.declared.slot.Slot.TheVariants.{Vacant, Marked};
-ghost use Rattle.rules.specs.declared.report.Action.TheVariants.{Wipe, Mark};
-ghost use Rattle.rules.specs.Lists.{edit};
-ghost use Rattle.rules.specs.Rack.{put as put_in, with as with_lists, cells as cells_in, soft, named};
+ghost use Rattle.rules.specs.declared.report.Action.TheVariants.{Wipe};
+ghost use Rattle.rules.specs.Rack.{put as put_in, with as with_lists, cells as cells_in, soft};
 ghost use Rattle.rules.specs.Choosers.{mask_of, asked};
 ghost use Rattle.rules.specs.Calls.{row_for, held_after};
-ghost use Rattle.rules.specs.Step.{ahead, column_of, row_told, slots_after, report_of, acted, action_of, after, wiped, redirect as redirects, sets_out};
-ghost use Rattle.rules.specs.Sound.{Rising, Sound};
+ghost use Rattle.rules.specs.Step.{ahead, column_of, row_told, slots_after, action_of, after, wiped, redirect as redirects, sets_out};
+ghost use Rattle.rules.specs.Sound.{Rising};
+ghost use Rattle.board.specs.Face.{rack_in};
 ghost use Rattle.board.specs.Reading.{rack_of, ticket_at, mask_seen};
 ghost use Rattle.board.specs.Acting.{list_of, Replaced, Writes};
 
+use crate::board::Board;
 use crate::chooser::Chooser;
-use crate::look::row_of;
 use crate::tables::Tables;
-use crate::walk::Spot;
 use rules::asked::Asked;
-use rules::report::{Action, Report};
+use rules::report::Action;
 use rules::slot::Slot;
 use rules::ticket::{Phase, Ticket};
 
@@ -30,12 +29,11 @@ fn set_out(t: Ticket, column: u32, handbacks: u32) -> Ticket
         t.seen
     };
     Ticket {
-        number: t.number,
-        request: t.request,
         phase: Phase::Forward,
         first: column,
         marks: 0,
         seen,
+        ..t
     }
 }
 
@@ -81,7 +79,7 @@ fn lessened(t: Ticket, handbacks: u32) -> Option<Ticket>
 }
 
 /// What the ticket becomes by an action.
-fn becomes(t: Ticket, action: Action, handbacks: u32) -> Option<Ticket>
+pub(crate) fn becomes(t: Ticket, action: Action, handbacks: u32) -> Option<Ticket>
     requires reach { t.first + t.marks ≤ 256 }
     requires marks { action ≡ Wipe → 1 ≤ t.marks }
     ensures { after handbacks action t ≡ list_of result }
@@ -106,7 +104,7 @@ fn becomes(t: Ticket, action: Action, handbacks: u32) -> Option<Ticket>
 }
 
 /// The column that the report of an action gives.
-fn column_told(t: Ticket, action: Action) -> u32
+pub(crate) fn column_told(t: Ticket, action: Action) -> u32
     requires { t.first + t.marks ≤ 256 }
     ensures { result ≡ column_of action t }
 {
@@ -119,19 +117,19 @@ fn column_told(t: Ticket, action: Action) -> u32
 }
 
 impl Tables {
-    fn put_ticket(&mut self, i: usize, t: Ticket)
-        requires { i < vec_len self.old.tickets }
-        ensures { rack_of self.new ≡ with_lists (rack_of self.old) (slice_set (rack_of self.old).tickets i t) (rack_of self.old).slots }
+    /// The ticket at a place becomes another, or leaves.
+    pub(crate) fn replace(&mut self, i: usize, t: Ticket, by: Option<Ticket>)
+        requires within { i < vec_len self.old.tickets }
+        requires is { t ≡ ticket_at (rack_of self.old) i }
+        requires rising { Rising self.old.first self.old.next (rack_of self.old).tickets }
+        ensures { Replaced (rack_of self.old) t by (rack_of self.new) }
     {
-        self.tickets[i] = t;
-    }
-
-    /// The ticket leaves the board.
-    fn take_out(&mut self, i: usize)
-        requires { i < vec_len self.old.tickets }
-        ensures { rack_of self.new ≡ with_lists (rack_of self.old) (take i (rack_of self.old).tickets ++ drop (i + 1) (rack_of self.old).tickets) (rack_of self.old).slots }
-    {
-        let _ = self.tickets.remove(i);
+        match by {
+            Some(u) => self.tickets[i] = u,
+            None => {
+                let _ = self.tickets.remove(i);
+            }
+        }
     }
 
     fn put_slot(&mut self, column: u32, row: u32, slot: Slot)
@@ -142,8 +140,20 @@ impl Tables {
         self.slots[at] = slot;
     }
 
+    /// What an action writes: a mark in a slot, or a slot made vacant.
+    pub(crate) fn write(&mut self, t: Ticket, action: Action, column: u32, row: u32)
+        requires { Writes (rack_of self.old) action column row }
+        ensures { rack_of self.new ≡ with_lists (rack_of self.old) (rack_of self.old).tickets (slots_after (rack_of self.old) t column row action) }
+    {
+        match action {
+            Action::Wipe => self.put_slot(column, row, Slot::Vacant),
+            Action::Mark => self.put_slot(column, row, Slot::Marked(t.number)),
+            Action::Over | Action::Without | Action::Grant | Action::Wall => {}
+        }
+    }
+
     /// The first action whose condition holds.
-    fn duty(&self, t: Ticket, mask: u16) -> Action
+    pub(crate) fn duty(&self, t: Ticket, mask: u16) -> Action
         requires is_soft { soft t.phase ≡ true }
         requires held { t.marks ≤ t.request.length }
         requires mask { mask ≡ mask_seen (rack_of self.now) t }
@@ -169,36 +179,7 @@ impl Tables {
             Action::Wall
         }
     }
-}
 
-impl Tables {
-    /// The ticket at a place becomes another, or leaves.
-    pub(crate) fn replace(&mut self, i: usize, t: Ticket, by: Option<Ticket>)
-        requires within { i < vec_len self.old.tickets }
-        requires is { t ≡ ticket_at (rack_of self.old) i }
-        requires rising { Rising self.old.first self.old.next (rack_of self.old).tickets }
-        ensures { Replaced (rack_of self.old) t by (rack_of self.new) }
-    {
-        match by {
-            Some(u) => self.put_ticket(i, u),
-            None => self.take_out(i),
-        }
-    }
-
-    /// What an action writes: a mark in a slot, or a slot made vacant.
-    fn write(&mut self, t: Ticket, action: Action, column: u32, row: u32)
-        requires { Writes (rack_of self.old) action column row }
-        ensures { rack_of self.new ≡ with_lists (rack_of self.old) (rack_of self.old).tickets (slots_after (rack_of self.old) t column row action) }
-    {
-        match action {
-            Action::Wipe => self.put_slot(column, row, Slot::Vacant),
-            Action::Mark => self.put_slot(column, row, Slot::Marked(t.number)),
-            Action::Over | Action::Without | Action::Grant | Action::Wall => {}
-        }
-    }
-}
-
-impl Tables {
     /// The row of the ticket's own mark one column to the left of the next, if it has one.
     fn left_row(&self, t: Ticket) -> Option<u32>
         requires { t.first + t.marks ≤ self.now.sizes.columns }
@@ -207,34 +188,33 @@ impl Tables {
         if t.marks == 0 {
             return None;
         }
-        Some(row_of(self.cells(t.first + t.marks - 1), t.number))
+        Some(self.column(t.first + t.marks - 1).row_of(t.number))
     }
+}
 
+impl Board {
     /// The row that the chooser picks for a mark in the column ahead, which has a vacant one.
     fn pick<C: Chooser>(&self, t: Ticket, mask: u16, chooser: &mut C) -> u32
-        requires sound { Sound (rack_of self.now) }
-        requires inside { ahead t < self.now.sizes.columns }
-        requires mask { mask ≡ mask_of (cells_in (rack_of self.now) (ahead t)) }
+        requires inside { ahead t < self.now.tables.sizes.columns }
+        requires mask { mask ≡ mask_of (cells_in (rack_in self.now) (ahead t)) }
         requires vacant { mask ≢ 0 }
-        ensures row { result ≡ row_for C.Chooser.meaning (rack_of self.now) t chooser.old }
-        ensures held { chooser.new ≡ C.Chooser.meaning.then chooser.old (asked (rack_of self.now) t) }
-        ensures within { (1 ≤ result) × (result ≤ self.now.sizes.rows) }
+        ensures row { result ≡ row_for C.Chooser.meaning (rack_in self.now) t chooser.old }
+        ensures held { chooser.new ≡ C.Chooser.meaning.then chooser.old (asked (rack_in self.now) t) }
+        ensures within { (1 ≤ result) × (result ≤ self.now.tables.sizes.rows) }
     {
         let asked = Asked {
             mask,
             column: t.first + t.marks,
-            left: self.left_row(t),
+            left: self.tables.left_row(t),
         };
         match chooser.choose(asked) {
             Some(row) => row,
             None => unreachable(),
         }
     }
-}
 
-impl Tables {
     /// The row that an action writes: for a mark the chooser's, for a wipe the mark's own, else 0.
-    fn row_for<C: Chooser>(
+    pub(crate) fn row_for<C: Chooser>(
         &self,
         i: usize,
         t: Ticket,
@@ -242,44 +222,19 @@ impl Tables {
         mask: u16,
         chooser: &mut C,
     ) -> u32
-        requires sound { Sound (rack_of self.now) }
-        requires within { i < vec_len self.now.tickets }
-        requires is { t ≡ ticket_at (rack_of self.now) i }
+        requires within { i < vec_len self.now.tables.tickets }
+        requires is { t ≡ ticket_at (rack_in self.now) i }
         requires is_soft { soft t.phase ≡ true }
-        requires mask { mask ≡ mask_seen (rack_of self.now) t }
-        requires action { action ≡ action_of (rack_of self.now) t }
-        ensures row { result ≡ row_told (rack_of self.now) t (row_for C.Chooser.meaning (rack_of self.now) t chooser.old) action }
-        ensures held { chooser.new ≡ held_after C.Chooser.meaning (rack_of self.now) t chooser.old }
-        ensures writes { Writes (rack_of self.now) action (column_of action t) result }
+        requires mask { mask ≡ mask_seen (rack_in self.now) t }
+        requires action { action ≡ action_of (rack_in self.now) t }
+        ensures row { result ≡ row_told (rack_in self.now) t (row_for C.Chooser.meaning (rack_in self.now) t chooser.old) action }
+        ensures held { chooser.new ≡ held_after C.Chooser.meaning (rack_in self.now) t chooser.old }
+        ensures writes { Writes (rack_in self.now) action (column_of action t) result }
     {
         match action {
             Action::Mark => self.pick(t, mask, chooser),
-            Action::Wipe => row_of(self.cells(t.first + t.marks - 1), t.number),
+            Action::Wipe => self.tables.column(t.first + t.marks - 1).row_of(t.number),
             Action::Over | Action::Without | Action::Grant | Action::Wall => 0,
-        }
-    }
-
-    /// The ticket at a place does its action.
-    pub(crate) fn act<C: Chooser>(&mut self, spot: Spot, chooser: &mut C) -> Report
-        requires sound { Sound (rack_of self.old) }
-        requires within { spot.place < vec_len self.old.tickets }
-        requires is_soft { soft (ticket_at (rack_of self.old) spot.place).phase ≡ true }
-        requires mask { spot.mask ≡ mask_seen (rack_of self.old) (ticket_at (rack_of self.old) spot.place) }
-        ensures report { result ≡ report_of (rack_of self.old) (ticket_at (rack_of self.old) spot.place) (row_for C.Chooser.meaning (rack_of self.old) (ticket_at (rack_of self.old) spot.place) chooser.old) }
-        ensures rack { rack_of self.new ≡ acted (rack_of self.old) (ticket_at (rack_of self.old) spot.place) (row_for C.Chooser.meaning (rack_of self.old) (ticket_at (rack_of self.old) spot.place) chooser.old) }
-        ensures held { chooser.new ≡ held_after C.Chooser.meaning (rack_of self.old) (ticket_at (rack_of self.old) spot.place) chooser.old }
-    {
-        let t = self.ticket(spot.place);
-        let action = self.duty(t, spot.mask);
-        let column = column_told(t, action);
-        let row = self.row_for(spot.place, t, action, spot.mask, chooser);
-        self.write(t, action, column, row);
-        self.replace(spot.place, t, becomes(t, action, self.handbacks));
-        Report {
-            number: t.number,
-            action,
-            column,
-            row,
         }
     }
 }

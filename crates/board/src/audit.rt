@@ -89,13 +89,9 @@ fn seeking_and_hard(tickets: &[Ticket]) -> (u32, u32)
     ensures seeking { result.0 ≡ count_of (λ t. seeking t.phase) tickets.now }
     ensures hard { result.1 ≡ count_of (λ t. hard t.phase) tickets.now }
 {
-    let mut seeking = 0;
-    let mut hard = 0;
-    for (_i, ticket) in tickets.iter().enumerate() {
-        seeking += u32::from(is_seeking(ticket.phase));
-        hard += u32::from(ticket.phase.is_hard());
-    }
-    (seeking, hard)
+    let seeking = tickets.iter().filter(|t| is_seeking(t.phase)).count();
+    let hard = tickets.iter().filter(|t| t.phase.is_hard()).count();
+    (seeking as u32, hard as u32)
 }
 
 /// The accounts of a board where so many bookings were withdrawn.

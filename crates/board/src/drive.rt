@@ -66,6 +66,6 @@ impl Board {
             return Err(Refusal::Full);
         }
         let made = self.run(number, budget, journal, chooser);
-        Ok((made, self.tables.stage(number)))
+        Ok((made, self.stage(number)))
     }
 }

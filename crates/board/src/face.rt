@@ -1,21 +1,18 @@
-//! The public calls.
-ghost use Rattle.std.specs.Prelude.{◌≡◌, [], IfOk, Ok};
+//! A board never opened, and what can be asked of a board. No question changes it.
+ghost use Rattle.std.specs.Prelude.{◌≡◌, [], IfOk};
 ghost use Rattle.rules.specs.Rack.{never_opened};
-ghost use Rattle.rules.specs.Calls.{open' as open_call, book as book_call, step as step_call, collect as collect_call, drop' as drop_call, back as back_call, row as row_call, show as show_call, stage_at};
-ghost use Rattle.rules.specs.History.{Event, Reaches};
-ghost use Rattle.rules.specs.Laws.{told, Carries};
+ghost use Rattle.rules.specs.Calls.{row as row_call, show as show_call, stage_at};
+ghost use Rattle.rules.specs.History.{Reaches};
 ghost use Rattle.rules.specs.Sound.{Reached};
 ghost use Rattle.board.specs.Face.{rack_in};
 
 use crate::board::Board;
-use crate::chooser::Chooser;
+use crate::look::place_of;
 use crate::tables::Tables;
 use rules::rack::{MOST_COLUMNS, MOST_PLACES, MOST_ROWS, Sizes};
 use rules::refusal::Refusal;
-use rules::report::Report;
 use rules::slot::Slot;
-use rules::span::Span;
-use rules::ticket::{Request, Stage, Ticket};
+use rules::ticket::{Phase, Stage, Ticket};
 use std::alloc::{AllocError, Global};
 
 const MOST_SLOTS: usize = MOST_COLUMNS as usize * MOST_ROWS as usize;
@@ -45,69 +42,17 @@ impl Board {
         Ok(Board { tables })
     }
 
-    /// Opens the board anew, whatever stood on it, and starts a new list of calls.
-    pub fn open(&mut self, sizes: Sizes, first: u32) -> Result<(), Refusal>
-        ensures answer { result ≡ (open_call (rack_in self.old) sizes first).answer }
-        ensures rack { rack_in self.new ≡ (open_call (rack_in self.old) sizes first).rack }
-        ensures history { result ≡ Ok tt → Reaches [] (rack_in self.new) }
-    {
-        self.tables.open(sizes, first)
-    }
-
-    /// Books adjacent columns from a start on, and answers the booking's number.
-    pub fn book(&mut self, request: Request) -> Result<u32, Refusal>
-        ensures answer { result ≡ (book_call (rack_in self.old) request).answer }
-        ensures rack { rack_in self.new ≡ (book_call (rack_in self.old) request).rack }
-        ensures history { Carries (told (λ n. Event.taken n request) result) (rack_in self.old) (rack_in self.new) }
-    {
-        self.tables.book(request)
-    }
-
-    /// Makes one step that names a number: one action of one ticket.
-    pub fn step<C: Chooser>(&mut self, number: u32, chooser: &mut C) -> Result<Report, Refusal>
-        ensures answer { result ≡ (step_call C.Chooser.meaning (rack_in self.old) number chooser.old).answer }
-        ensures rack { rack_in self.new ≡ (step_call C.Chooser.meaning (rack_in self.old) number chooser.old).ran.rack }
-        ensures chooser { chooser.new ≡ (step_call C.Chooser.meaning (rack_in self.old) number chooser.old).ran.held }
-        ensures history { Carries (told Event.stepped result) (rack_in self.old) (rack_in self.new) }
-    {
-        self.tables.step(number, chooser)
-    }
-
-    /// Takes a decided booking's answer: its span, which is then out, or nothing.
-    pub fn collect(&mut self, number: u32) -> Result<Option<Span>, Refusal>
-        ensures answer { result ≡ (collect_call (rack_in self.old) number).answer }
-        ensures rack { rack_in self.new ≡ (collect_call (rack_in self.old) number).rack }
-        ensures history { Carries (told (λ _. Event.collected number) result) (rack_in self.old) (rack_in self.new) }
-    {
-        self.tables.collect(number)
-    }
-
-    /// Withdraws an undecided booking (drop).
-    pub fn withdraw(&mut self, number: u32) -> Result<(), Refusal>
-        ensures answer { result ≡ (drop_call (rack_in self.old) number).answer }
-        ensures rack { rack_in self.new ≡ (drop_call (rack_in self.old) number).rack }
-        ensures history { Carries (told (λ _. Event.dropped number) result) (rack_in self.old) (rack_in self.new) }
-    {
-        self.tables.withdraw(number)
-    }
-
-    /// Hands a collected grant back.
-    pub fn back(&mut self, number: u32) -> Result<(), Refusal>
-        ensures answer { result ≡ (back_call (rack_in self.old) number).answer }
-        ensures rack { rack_in self.new ≡ (back_call (rack_in self.old) number).rack }
-        ensures history { Carries (told (λ _. Event.returned number) result) (rack_in self.old) (rack_in self.new) }
-    {
-        self.tables.back(number)
-    }
-
-    /// The stage that a number is in: idle where no ticket has it. Nothing changes.
+    /// The stage that a number is in: idle where no ticket has it.
     pub fn stage(&self, number: u32) -> Stage
         ensures { result ≡ stage_at (rack_in self.now) number }
     {
-        self.tables.stage(number)
+        let Some(i) = place_of(&self.tables.tickets, number) else {
+            return Stage::Idle;
+        };
+        self.tables.ticket(i).phase.stage()
     }
 
-    /// The tickets in use, lowest number first, of a board that some list of calls has led to. Nothing changes.
+    /// The tickets in use, lowest number first, of a board that some list of calls has led to.
     pub fn tickets(&self) -> &[Ticket]
         ensures tickets { result.now ≡ (rack_in self.now).tickets }
         ensures reached { Reached (rack_in self.now) }
@@ -115,17 +60,30 @@ impl Board {
         self.tables.tickets.as_slice()
     }
 
-    /// The row marked in the window's column at this offset. Nothing changes.
+    /// The row marked in the window's column at this offset.
     pub fn row(&self, number: u32, offset: u32) -> Result<u32, Refusal>
         ensures { result ≡ row_call (rack_in self.now) number offset }
     {
-        self.tables.row(number, offset)
+        let (_i, t) = self.tables.named(number)?;
+        match t.phase {
+            Phase::Out => {
+                if offset >= t.request.length {
+                    return Err(Refusal::Columns);
+                }
+                Ok(self.tables.column(t.first + offset).row_of(t.number))
+            }
+            Phase::Forward | Phase::Backing(_) | Phase::Without | Phase::Granted | Phase::Closing =>
+                Err(Refusal::Stage),
+        }
     }
 
-    /// How many slots of a column hold a mark. Nothing changes.
+    /// How many slots of a column hold a mark.
     pub fn show(&self, column: u32) -> Result<u32, Refusal>
         ensures { result ≡ show_call (rack_in self.now) column }
     {
-        self.tables.show(column)
+        if column >= self.tables.sizes.columns {
+            return Err(Refusal::Columns);
+        }
+        Ok(self.tables.column(column).marks())
     }
 }

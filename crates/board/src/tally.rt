@@ -19,6 +19,6 @@ impl Ranked for RowTally {
     ghost transitive = { Prim.search rules };
 
     fn stands_before(&self, other: &Self) -> bool {
-        self.count < other.count || self.count == other.count && self.row <= other.row
+        (self.count, self.row) <= (other.count, other.row)
     }
 }
