@@ -1,7 +1,6 @@
 use Rattle.std.proofs.Common.{ℕ, Ok, Err, Result, sym, refl, ap, ◌∙◌, subst}
 use Rattle.std.proofs.lemmas.Result.{err_from_is_err_and}
 use Rattle.lists.specs.Contents.{room_of, entered}
-use Rattle.lists.specs.Reading.{contents_of}
 use Rattle.rules.specs.declared.refusal.Refusal.{Refusal}
 use Rattle.rules.specs.declared.ticket.Stage.{Stage}
 use Rattle.rules.specs.Rack.{Rack}
@@ -17,15 +16,14 @@ pub returns-in_err-soft_place : goal.returns-in_err-soft_place
 returns-in_err-soft_place g c =
     let m = g.C.Chooser.meaning in
     let x = rack_in c.args.self.now in
-    let room = room_of (contents_of c.args.journal.now) in
+    let room = room_of c.args.journal.now in
     let p = err_from_is_err_and c.from_residual.result c.from_residual.ensures.1 in
     let d = drive_none m x c.args.number c.args.budget room c.args.chooser.now _ c.in_err-soft_place.ensures in
     record {
       answer = p.1 ∙ (ap Err p.2 ∙ sym (ap (λ o. o.answer) d));
       rack = sym (ap (λ o. o.ran.rack) d);
       chooser = sym (ap (λ o. o.ran.held) d);
-      journal = sym (ap (λ o. entered (contents_of c.args.journal.now) o.ran.reports) d);
-      place = refl;
+      journal = sym (ap (λ o. entered c.args.journal.now o.ran.reports) d);
       counts = drive_counts m;
       ends = drive_ends m;
       history = subst (λ (y : Rack). Carries (reported (drive m x c.args.number c.args.budget room c.args.chooser.now).ran.reports) x y) (ap (λ o. o.ran.rack) d)
@@ -36,14 +34,13 @@ pub returns-then-is_full : goal.returns-then-is_full
 returns-then-is_full g c =
     let m = g.C.Chooser.meaning in
     let x = rack_in c.args.self.now in
-    let room = room_of (contents_of c.args.journal.now) in
+    let room = room_of c.args.journal.now in
     let d = drive_full m x c.args.number c.args.budget room c.args.chooser.now _ c.in_ok-soft_place.ensures.2 (sym c.if-is_full.ensures) in
     record {
       answer = sym (ap (λ o. o.answer) d);
       rack = sym (ap (λ o. o.ran.rack) d);
       chooser = sym (ap (λ o. o.ran.held) d);
-      journal = sym (ap (λ o. entered (contents_of c.args.journal.now) o.ran.reports) d);
-      place = refl;
+      journal = sym (ap (λ o. entered c.args.journal.now o.ran.reports) d);
       counts = drive_counts m;
       ends = drive_ends m;
       history = subst (λ (y : Rack). Carries (reported (drive m x c.args.number c.args.budget room c.args.chooser.now).ran.reports) x y) (ap (λ o. o.ran.rack) d)
@@ -54,7 +51,7 @@ pub returns : goal.returns
 returns g c =
     let m = g.C.Chooser.meaning in
     let x = rack_in c.args.self.now in
-    let room = room_of (contents_of c.args.journal.now) in
+    let room = room_of c.args.journal.now in
     let d = drive_runs m x c.args.number c.args.budget room c.args.chooser.now _ c.in_ok-soft_place.ensures.2 (sym c.if-is_full.ensures) in
     let e = c.run-made.ensures.rack ∙ sym (ap (λ o. o.ran.rack) d) in
     record {
@@ -62,8 +59,7 @@ returns g c =
           ∙ sym (ap (λ o. o.answer) d);
       rack = e;
       chooser = c.run-made.ensures.chooser ∙ sym (ap (λ o. o.ran.held) d);
-      journal = c.run-made.ensures.journal ∙ sym (ap (λ o. entered (contents_of c.args.journal.now) o.ran.reports) d);
-      place = c.run-made.ensures.place;
+      journal = c.run-made.ensures.journal ∙ sym (ap (λ o. entered c.args.journal.now o.ran.reports) d);
       counts = drive_counts m;
       ends = drive_ends m;
       history = subst (λ (y : Rack). Carries (reported (drive m x c.args.number c.args.budget room c.args.chooser.now).ran.reports) x y) (sym e)
