@@ -7,19 +7,23 @@ use crate::visit::visit;
 use board::board::Board;
 use board::lowest::Lowest;
 use lists::journal::Journal;
-use rules::report::{Action, Report};
+use rules::rack::Sizes;
+use rules::report::Report;
 use rules::ticket::Request;
 use std::io;
 
 fn main(rt: HostRuntime) -> io::Result<()> {
     let mut board = Board::new(rt.alloc())?;
-    let _ = board.open(2, 6, 3, 1, 1);
-    let mut places = [Report {
-        number: 0,
-        action: Action::Wipe,
-        column: 0,
-        row: 0,
-    }; 64];
+    let _ = board.open(
+        Sizes {
+            rows: 2,
+            columns: 6,
+            places: 3,
+            lead: 1,
+        },
+        1,
+    );
+    let mut places = [Report::default(); 64];
     let mut reports = Journal::new(&mut places);
     let mut columns = [0; 64];
     let mut rows = Journal::new(&mut columns);

@@ -3,9 +3,10 @@ ghost use Rattle.std.specs.Prelude.{◌≡◌};
 ghost use Rattle.rules.specs.Words.{action_number};
 
 /// The six things that a step can do.
-#[derive(Clone, Copy, PartialEq, Eq, Debug)]
+#[derive(Clone, Copy, PartialEq, Eq, Debug, Default)]
 pub enum Action {
     /// The last mark becomes vacant.
+    #[default]
     Wipe = 1,
     /// The search starts over, since slots were handed back after it began.
     Over = 2,
@@ -29,7 +30,8 @@ impl Action {
 }
 
 /// One step: the ticket worked on, what was done, and where. The row is 0 unless one was marked or wiped.
-#[derive(Clone, Copy, PartialEq, Eq, Debug)]
+/// The default fills the places of a journal before there are entries.
+#[derive(Clone, Copy, PartialEq, Eq, Debug, Default)]
 pub struct Report {
     pub number: u32,
     pub action: Action,

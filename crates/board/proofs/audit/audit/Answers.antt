@@ -31,8 +31,8 @@ pub loop-turn-init : goal.loop-turn-init
 loop-turn-init g c =
     let h = c.in_ok-open.ensures in
     let z = c.args.sizes in
-      leaves_none g.C.Chooser.meaning (rack_in c.args.board.now) z c.args.first c.args.journal.now c.args.turns.now
-          (rack_in c.open.new.self) h.answer h.rack (h.history refl)
+    leaves_none g.C.Chooser.meaning (rack_in c.args.board.now) z c.args.first c.args.journal.now c.args.turns.now
+    (rack_in c.open.new.self) h.answer h.rack (h.history refl)
 
 pub overflow_add-withdrawn : goal.overflow_add-withdrawn
 overflow_add-withdrawn g c =
@@ -46,9 +46,9 @@ overflow_add-withdrawn g c =
 pub loop-turn-preserved : goal.loop-turn-preserved
 loop-turn-preserved g c =
     let h = c.play-withdrawn.ensures in
-      leaves_more g.C.Chooser.meaning _ _ g.met.C.Chooser.lawful (rack_in c.loop-turn.board) (rack_in c.play-withdrawn.new.board) c.loop-turn.journal
-          c.play-withdrawn.new.journal c.loop-turn.withdrawn c.play-withdrawn.result c.loop-turn.turns c.loop-turn.turn-index c.turn-item.result
-          c.play-withdrawn.new.turn (omega arith) h.withdrew h.rack h.turn h.journal c.loop-turn.invariant
+    leaves_more g.C.Chooser.meaning _ _ g.met.C.Chooser.lawful (rack_in c.loop-turn.board) (rack_in c.play-withdrawn.new.board) c.loop-turn.journal
+    c.play-withdrawn.new.journal c.loop-turn.withdrawn c.play-withdrawn.result c.loop-turn.turns c.loop-turn.turn-index c.turn-item.result
+    c.play-withdrawn.new.turn (omega arith) h.withdrew h.rack h.turn h.journal c.loop-turn.invariant
 
 pub accounts_on-requires : goal.accounts_on-requires
 accounts_on-requires g c = let k = c.loop-turn.invariant in enough k.0 (rack_in c.loop-turn.board) c.loop-turn.withdrawn k.1 k.2
