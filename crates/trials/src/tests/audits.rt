@@ -23,13 +23,15 @@ struct Count {
     returned: u32,
 }
 
+// One more, where it is so.
+fn add(counted: &mut u32, so: bool) {
+    *counted = counted.wrapping_add(u32::from(so));
+}
+
 impl Count {
     fn report(&mut self, report: Report) {
-        match report.action {
-            Action::Without => self.without = self.without.wrapping_add(1),
-            Action::Grant => self.granted = self.granted.wrapping_add(1),
-            _ => {}
-        }
+        add(&mut self.without, report.action == Action::Without);
+        add(&mut self.granted, report.action == Action::Grant);
     }
 
     fn accounts(&self) -> Accounts {
@@ -50,11 +52,7 @@ impl Count {
     // Makes a call and counts what it answers; what a drive enters is counted later.
     fn call(&mut self, board: &mut Board, call: Call, journal: &mut Journal<Report>) {
         match call {
-            Call::Book(request) => {
-                self.taken = self
-                    .taken
-                    .wrapping_add(u32::from(board.book(request).is_ok()));
-            }
+            Call::Book(request) => add(&mut self.taken, board.book(request).is_ok()),
             Call::Step(number) => {
                 if let Ok(report) = board.step(number, &mut Lowest) {
                     self.report(report);
@@ -66,16 +64,8 @@ impl Count {
             Call::Collect(number) => {
                 let _ = board.collect(number);
             }
-            Call::Withdraw(number) => {
-                self.withdrawn = self
-                    .withdrawn
-                    .wrapping_add(u32::from(board.withdraw(number).is_ok()));
-            }
-            Call::Back(number) => {
-                self.returned = self
-                    .returned
-                    .wrapping_add(u32::from(board.back(number).is_ok()));
-            }
+            Call::Withdraw(number) => add(&mut self.withdrawn, board.withdraw(number).is_ok()),
+            Call::Back(number) => add(&mut self.returned, board.back(number).is_ok()),
         }
     }
 
@@ -100,8 +90,8 @@ fn draw(chance: &mut Chance, most: u32) -> Call {
             start: chance.below(6),
             length: chance.below(5),
         }),
-        2 | 3 | 4 => Call::Step(number),
-        5 | 6 | 7 => Call::Drive {
+        2..=4 => Call::Step(number),
+        5..=7 => Call::Drive {
             number,
             budget: chance.below(9),
         },
