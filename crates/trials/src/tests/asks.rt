@@ -5,6 +5,7 @@ use board::lowest::Lowest;
 use lists::journal::Journal;
 use rules::refusal::Refusal;
 use rules::report::{Action, Report};
+use rules::span::Span;
 use rules::ticket::{Request, Stage, Ticket};
 use std::alloc::{AllocError, Global};
 use std::process::Abort;
@@ -51,6 +52,14 @@ pub(super) const NO_REPORT: Report = Report {
     row: 0,
 };
 
+fn told(report: Report) -> Said {
+    Said::Told(report.number, report.action, report.column, report.row)
+}
+
+fn window(found: Option<Span>) -> Said {
+    Said::Window(found.map(|span| (span.first, span.length)))
+}
+
 // A drive with a journal of so many places, 64 at most.
 fn drive(board: &mut Board, number: u32, budget: u32, room: usize) -> Heard {
     let mut places = [NO_REPORT; 64];
@@ -82,17 +91,9 @@ pub(super) fn hear(board: &mut Board, ask: Ask) -> Heard {
         .open(board)
         .map(|()| Said::Done),
         Ask::Book(start, length) => board.book(Request { start, length }).map(Said::Figure),
-        Ask::Step(number) => board.step(number, &mut Lowest).map(|told| Said::Told(
-            told.number,
-            told.action,
-            told.column,
-            told.row,
-        )),
+        Ask::Step(number) => board.step(number, &mut Lowest).map(told),
         Ask::Drive(number, budget, room) => drive(board, number, budget, room),
-        Ask::Collect(number) => board.collect(number).map(|window| Said::Window(window.map(|span| (
-            span.first,
-            span.length,
-        )))),
+        Ask::Collect(number) => board.collect(number).map(window),
         Ask::Withdraw(number) => board.withdraw(number).map(|()| Said::Done),
         Ask::Back(number) => board.back(number).map(|()| Said::Done),
         Ask::Row(number, offset) => board.row(number, offset).map(Said::Figure),
@@ -114,10 +115,10 @@ struct Sight {
 
 fn look(heap: Global, board: &Board) -> Result<Sight, AllocError> {
     let tickets = board.tickets();
-    let rows = tickets.iter().flat_map(|ticket| (0..65).map(move |offset| board.row(
-        ticket.number,
-        offset,
-    )));
+    let rows = tickets.iter().flat_map(|ticket| {
+        let number = ticket.number;
+        (0..65).map(move |offset| board.row(number, offset))
+    });
     Ok(Sight {
         tickets: tickets.to_vec(heap)?,
         marks: (0..257).map(|column| board.show(column)).collect(heap)?,
