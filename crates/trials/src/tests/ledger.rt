@@ -113,16 +113,20 @@ impl Ledger {
         self.load(column) >= self.rack.rows as usize
     }
 
+    // The window lies on the rack, and none of its columns is full.
+    fn fits(&self, window: Span) -> bool {
+        let mut columns = columns_of(window);
+        columns.end <= self.rack.columns && columns.all(|column| !self.is_full(column))
+    }
+
     /// The ledger's answer to a booking: the least first column with room for it, if there is one.
     pub(super) fn least(&self, asked: Request) -> Option<u32> {
         let length = asked.length;
         (asked.start..self.rack.columns).find(|first| {
-            first.wrapping_add(length) <= self.rack.columns
-                && columns_of(Span {
-                    first: *first,
-                    length,
-                })
-                .all(|column| !self.is_full(column))
+            self.fits(Span {
+                first: *first,
+                length,
+            })
         })
     }
 

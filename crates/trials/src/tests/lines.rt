@@ -277,15 +277,9 @@ fn closing_lines(rt: &impl Abort) {
     assert_eq!(rt; write_end(&mut page, 7, 2), Ok(8));
     holds(rt, &page, "end\t7\t2\n10\t81\n");
     let mut fresh = [b'#'; 64];
-    assert_eq!(rt;
-        write_fault(&mut fresh, 18446744073709551615, fault),
-        Ok(38)
-    );
+    assert_eq!(rt; write_fault(&mut fresh, u64::MAX, fault), Ok(38));
     holds(rt, &fresh, "fault\t18446744073709551615\tline\t10\t81\n");
-    assert_eq!(rt;
-        write_end(&mut fresh, 18446744073709551615, 18446744073709551615),
-        Ok(46)
-    );
+    assert_eq!(rt; write_end(&mut fresh, u64::MAX, u64::MAX), Ok(46));
     holds(
         rt,
         &fresh,
