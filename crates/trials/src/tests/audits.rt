@@ -25,7 +25,7 @@ struct Count {
 
 // One more, where it is so.
 fn add(counted: &mut u32, so: bool) {
-    *counted = counted.wrapping_add(u32::from(so));
+    *counted = counted.saturating_add(u32::from(so));
 }
 
 impl Count {
@@ -181,8 +181,8 @@ fn audits(rt: HostRuntime) -> Result<(), Fail> {
             first: 1,
         };
         let accounts = agrees(&rt, rt.alloc(), rack, seed * 31)?;
-        returned = returned.wrapping_add(accounts.returned);
-        without = without.wrapping_add(accounts.without);
+        returned = returned.saturating_add(accounts.returned);
+        without = without.saturating_add(accounts.without);
     }
     assert!(rt;
         returned > 500 && without > 1000,

@@ -57,9 +57,9 @@ struct Sums {
 impl Sums {
     fn add(&mut self, trial: &Trial) {
         for (sum, action) in self.reports.iter_mut().zip(ACTIONS) {
-            *sum = sum.wrapping_add(trial.ledger.reports_of(action));
+            *sum = sum.saturating_add(trial.ledger.reports_of(action));
         }
-        self.returned = self.returned.wrapping_add(trial.returned);
+        self.returned = self.returned.saturating_add(trial.returned);
     }
 
     // Each action, and handing back, has come often enough for the runs to say something.

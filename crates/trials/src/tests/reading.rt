@@ -43,31 +43,34 @@ impl Foreseen for Evening {
 
     fn count(&self, ledger: &mut Ledger, row: u32) {
         if let Some(tally) = ledger.tallies.get_mut(row as usize) {
-            *tally = tally.wrapping_add(1);
+            *tally = tally.saturating_add(1);
         }
     }
 }
 
 impl Ledger {
     // A vacant slot of the board gets a mark, in the chooser's row.
-    fn marked(&mut self, rt: &impl Abort, chooser: &impl Foreseen, report: Report) {
-        let booking = self.booking(report.number).expect(rt, "no such booking");
+    fn marked(
+        &mut self,
+        rt: &impl Abort,
+        chooser: &impl Foreseen,
+        report: Report,
+        booking: Booking,
+    ) {
         assert!(rt; report.column < self.rack.columns);
-        assert_eq!(rt; booking.kind, Kind::Undecided);
         assert_eq!(rt; chooser.foreseen(self, report), Some(report.row));
         assert_eq!(rt; self.owner(report.column, report.row), None);
         assert_eq!(rt; self.marks_of(report.number, report.column), 0);
         self.own(report.column, report.row, Some(report.number));
         chooser.count(self, report.row);
         self.put(Booking {
-            marks: booking.marks.wrapping_add(1),
+            marks: booking.marks.saturating_add(1),
             ..booking
         });
     }
 
     // The number's own mark goes; it has none further to the right.
-    fn wiped(&mut self, rt: &impl Abort, report: Report) {
-        let booking = self.booking(report.number).expect(rt, "no such booking");
+    fn wiped(&mut self, rt: &impl Abort, report: Report, booking: Booking) {
         let number = Some(report.number);
         assert!(rt; report.row > 0);
         assert_eq!(rt; self.owner(report.column, report.row), number);
@@ -88,13 +91,11 @@ impl Ledger {
     }
 
     // A grant is the ledger's next answer.
-    fn granted(&mut self, rt: &impl Abort, report: Report) -> Result<(), Fail> {
-        let booking = self.booking(report.number).expect(rt, "no such booking");
+    fn granted(&mut self, rt: &impl Abort, report: Report, booking: Booking) -> Result<(), Fail> {
         let window = Span {
             first: report.column,
             length: booking.request.length,
         };
-        assert_eq!(rt; booking.kind, Kind::Undecided);
         assert_eq!(rt; report.row, 0);
         assert_eq!(rt; self.least(booking.request), Some(window.first));
         assert_eq!(rt; booking.marks, window.length);
@@ -108,9 +109,7 @@ impl Ledger {
     }
 
     // A without comes exactly where the ledger gives none.
-    fn refused(&mut self, rt: &impl Abort, report: Report) {
-        let booking = self.booking(report.number).expect(rt, "no such booking");
-        assert_eq!(rt; booking.kind, Kind::Undecided);
+    fn refused(&mut self, rt: &impl Abort, report: Report, booking: Booking) {
         assert_eq!(rt; (report.column, report.row), (booking.request.start, 0));
         assert_eq!(rt; self.least(booking.request), None);
         assert_eq!(rt; booking.marks, 0);
@@ -120,10 +119,8 @@ impl Ledger {
         });
     }
 
-    // Starting over and walls leave the marks; both are of an undecided booking.
-    fn turned(&self, rt: &impl Abort, report: Report) {
-        let booking = self.booking(report.number).expect(rt, "no such booking");
-        assert_eq!(rt; booking.kind, Kind::Undecided);
+    // Starting over and walls leave the marks.
+    fn turned(&self, rt: &impl Abort, report: Report, booking: Booking) {
         assert_eq!(rt; report.row, 0);
         match report.action {
             Action::Over => assert_eq!(rt; report.column, booking.request.start),
@@ -131,19 +128,24 @@ impl Ledger {
         }
     }
 
-    /// Takes a report in, and holds it against what was told before.
+    /// Takes a report in, and holds it against what was told before. All but a wipe are of an undecided
+    /// booking.
     pub(super) fn read(
         &mut self,
         rt: &impl Abort,
         chooser: &impl Foreseen,
         report: Report,
     ) -> Result<(), Fail> {
+        let booking = self.booking(report.number).expect(rt, "no such booking");
+        if report.action != Action::Wipe {
+            assert_eq!(rt; booking.kind, Kind::Undecided);
+        }
         match report.action {
-            Action::Mark => self.marked(rt, chooser, report),
-            Action::Wipe => self.wiped(rt, report),
-            Action::Grant => self.granted(rt, report)?,
-            Action::Without => self.refused(rt, report),
-            Action::Over | Action::Wall => self.turned(rt, report),
+            Action::Mark => self.marked(rt, chooser, report, booking),
+            Action::Wipe => self.wiped(rt, report, booking),
+            Action::Grant => self.granted(rt, report, booking)?,
+            Action::Without => self.refused(rt, report, booking),
+            Action::Over | Action::Wall => self.turned(rt, report, booking),
         }
         self.reports.push(report)?;
         Ok(())

@@ -225,7 +225,7 @@ impl Trial {
         assert_eq!(rt; answer, must);
         if answer.is_ok() {
             self.turn(number, Kind::Withdrawn);
-            self.withdrawn = self.withdrawn.wrapping_add(1);
+            self.withdrawn = self.withdrawn.saturating_add(1);
         }
     }
 
@@ -237,7 +237,7 @@ impl Trial {
         if answer.is_ok() {
             self.turn(number, Kind::Returned);
             self.ledger.leave(number);
-            self.returned = self.returned.wrapping_add(1);
+            self.returned = self.returned.saturating_add(1);
         }
     }
 
