@@ -25,7 +25,7 @@ fn run(rt: &impl Abort, trial: &mut Trial, mode: Mode) -> Result<(), Fail> {
     for call in 0..trial.draws.calls {
         let drawn = trial.chance.below(3);
         let here = Prefixed::new(rt, format_args!("call {call}, mode {mode:?}"));
-        // each chooser is a type of its own, which no table or `dyn` holds
+        // each chooser is a type of its own, and a `dyn` cannot stand for a type parameter
         match (mode, drawn) {
             (Mode::Lowest, _) | (Mode::Mixed, 0) => trial.call(&here, &mut Lowest)?,
             (Mode::Staying, _) | (Mode::Mixed, 1) => trial.call(&here, &mut Staying)?,
