@@ -1,6 +1,7 @@
 //! The accounts of an audit, held against a count of what the same calls answer one by one.
-use crate::tests::asks::no_report;
+use crate::tests::asks::NO_REPORT;
 use crate::tests::chance::Chance;
+use crate::tests::ledger::Rack;
 use board::audit::{Accounts, Call, Turn, audit};
 use board::board::Board;
 use board::lowest::Lowest;
@@ -13,7 +14,7 @@ use std::process::Abort;
 use std::test::Fail;
 
 // What is counted of the answers.
-#[derive(Drop)]
+#[derive(Clone, Copy, Default)]
 struct Count {
     taken: u32,
     withdrawn: u32,
@@ -22,23 +23,15 @@ struct Count {
     returned: u32,
 }
 
-impl Count {
-    fn new() -> Count {
-        Count {
-            taken: 0,
-            withdrawn: 0,
-            without: 0,
-            granted: 0,
-            returned: 0,
-        }
-    }
+// One more, where it is so.
+fn add(counted: &mut u32, so: bool) {
+    *counted = counted.saturating_add(u32::from(so));
+}
 
+impl Count {
     fn report(&mut self, report: Report) {
-        match report.action {
-            Action::Without => self.without = self.without.wrapping_add(1),
-            Action::Grant => self.granted = self.granted.wrapping_add(1),
-            _ => {}
-        }
+        add(&mut self.without, report.action == Action::Without);
+        add(&mut self.granted, report.action == Action::Grant);
     }
 
     fn accounts(&self) -> Accounts {
@@ -59,11 +52,7 @@ impl Count {
     // Makes a call and counts what it answers; what a drive enters is counted later.
     fn call(&mut self, board: &mut Board, call: Call, journal: &mut Journal<Report>) {
         match call {
-            Call::Book(request) => {
-                self.taken = self
-                    .taken
-                    .wrapping_add(u32::from(board.book(request).is_ok()));
-            }
+            Call::Book(request) => add(&mut self.taken, board.book(request).is_ok()),
             Call::Step(number) => {
                 if let Ok(report) = board.step(number, &mut Lowest) {
                     self.report(report);
@@ -75,16 +64,8 @@ impl Count {
             Call::Collect(number) => {
                 let _ = board.collect(number);
             }
-            Call::Withdraw(number) => {
-                self.withdrawn = self
-                    .withdrawn
-                    .wrapping_add(u32::from(board.withdraw(number).is_ok()));
-            }
-            Call::Back(number) => {
-                self.returned = self
-                    .returned
-                    .wrapping_add(u32::from(board.back(number).is_ok()));
-            }
+            Call::Withdraw(number) => add(&mut self.withdrawn, board.withdraw(number).is_ok()),
+            Call::Back(number) => add(&mut self.returned, board.back(number).is_ok()),
         }
     }
 
@@ -109,8 +90,8 @@ fn draw(chance: &mut Chance, most: u32) -> Call {
             start: chance.below(6),
             length: chance.below(5),
         }),
-        2 | 3 | 4 => Call::Step(number),
-        5 | 6 | 7 => Call::Drive {
+        2..=4 => Call::Step(number),
+        5..=7 => Call::Drive {
             number,
             budget: chance.below(9),
         },
@@ -122,45 +103,64 @@ fn draw(chance: &mut Chance, most: u32) -> Call {
 
 fn draw_turns(heap: Global, seed: u32) -> Result<Vec<Turn<Lowest>>, AllocError> {
     let mut chance = Chance::new(seed);
-    let mut turns = Vec::new(heap);
-    for i in 0..400u32 {
-        turns.push(Turn {
-            call: draw(&mut chance, (i / 10).wrapping_add(1)),
+    (0..400)
+        .map(|i| Turn {
+            call: draw(&mut chance, i / 10 + 1),
             chooser: Lowest,
-        })?;
+        })
+        .collect(heap)
+}
+
+impl Rack {
+    fn audit(
+        &self,
+        board: &mut Board,
+        turns: &mut [Turn<Lowest>],
+        journal: &mut Journal<Report>,
+    ) -> Result<Accounts, Refusal> {
+        audit(
+            board,
+            self.rows,
+            self.columns,
+            self.places,
+            self.lead,
+            self.first,
+            turns,
+            journal,
+        )
     }
-    Ok(turns)
 }
 
 // The same turns by an audit and one by one, on two racks alike.
-fn agrees(
-    rt: &impl Abort,
-    heap: Global,
-    rows: u32,
-    lead: u32,
-    seed: u32,
-) -> Result<Accounts, Fail> {
+fn agrees(rt: &impl Abort, heap: Global, rack: Rack, seed: u32) -> Result<Accounts, Fail> {
     let mut turns = draw_turns(heap, seed)?;
     let mut board = Board::new(heap)?;
-    let mut places = [no_report(); 900];
+    let mut places = [NO_REPORT; 900];
     let mut journal = Journal::new(&mut places);
-    let mut count = Count::new();
-    board.open(rows, 7, 16, lead, 1)?;
+    let mut count = Count::default();
+    rack.open(&mut board)?;
     count.calls(&mut board, &turns, &mut journal);
     count.reports(journal.entries());
     journal.clear();
-    let accounts = audit(&mut board, rows, 7, 16, lead, 1, &mut turns, &mut journal)?;
+    let accounts = rack.audit(&mut board, &mut turns, &mut journal)?;
     assert_eq!(rt; accounts, count.accounts(), "seed {seed}");
     Ok(accounts)
 }
 
 // A refused opening is the answer, and no turn is made.
 fn refused(rt: &impl Abort, heap: Global) -> Result<(), Fail> {
+    let rack = Rack {
+        rows: 1,
+        columns: 7,
+        places: 65,
+        lead: 0,
+        first: 1,
+    };
     let mut turns = draw_turns(heap, 5)?;
     let mut board = Board::new(heap)?;
-    let mut places = [no_report(); 4];
+    let mut places = [NO_REPORT; 4];
     let mut journal = Journal::new(&mut places);
-    let answer = audit(&mut board, 1, 7, 65, 0, 1, &mut turns, &mut journal);
+    let answer = rack.audit(&mut board, &mut turns, &mut journal);
     assert_eq!(rt; answer, Err(Refusal::Limits));
     assert_eq!(rt; journal.len(), 0);
     assert_eq!(rt; board.tickets().len(), 0);
@@ -173,15 +173,16 @@ fn audits(rt: HostRuntime) -> Result<(), Fail> {
     let mut returned = 0u32;
     let mut without = 0u32;
     for seed in 0..200u32 {
-        let accounts = agrees(
-            &rt,
-            rt.alloc(),
-            (seed % 2).wrapping_add(1),
-            seed % 5,
-            seed.wrapping_mul(31),
-        )?;
-        returned = returned.wrapping_add(accounts.returned);
-        without = without.wrapping_add(accounts.without);
+        let rack = Rack {
+            rows: seed % 2 + 1,
+            columns: 7,
+            places: 16,
+            lead: seed % 5,
+            first: 1,
+        };
+        let accounts = agrees(&rt, rt.alloc(), rack, seed * 31)?;
+        returned = returned.saturating_add(accounts.returned);
+        without = without.saturating_add(accounts.without);
     }
     assert!(rt;
         returned > 500 && without > 1000,

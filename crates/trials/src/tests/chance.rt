@@ -21,7 +21,6 @@ impl Chance {
 
     /// A number from 0 to `most`, `most` not among them; 0 where that is 0.
     pub(super) fn below(&mut self, most: u32) -> u32 {
-        let x = self.draw().wrapping_shr(3);
-        if most == 0 { 0 } else { x % most }
+        self.draw().wrapping_shr(3).checked_rem(most).unwrap_or(0)
     }
 }

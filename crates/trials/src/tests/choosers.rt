@@ -5,84 +5,67 @@ use board::lowest::Lowest;
 use board::staying::Staying;
 use std::process::Abort;
 
-// A question, and the row that lowest and staying pick.
-#[derive(Clone, Copy)]
-struct Question {
-    mask: u16,
-    left: Option<u32>,
-    lowest: Option<u32>,
-    staying: Option<u32>,
-}
-
-fn ask(mask: u16, left: Option<u32>, lowest: Option<u32>, staying: Option<u32>) -> Question {
-    Question {
-        mask,
-        left,
-        lowest,
-        staying,
-    }
+// The row that a chooser picks of a column, told the vacant rows and the row to the left.
+fn pick<C: Chooser>(chooser: &mut C, mask: u16, column: u32, left: Option<u32>) -> Option<u32> {
+    chooser.choose(mask, column, left)
 }
 
 // A chooser is asked twice, at both ends of the board: neither its past nor the column counts.
-fn picks(rt: &impl Abort, question: Question) {
-    let mut lowest = Lowest;
-    let mut staying = Staying;
-    assert_eq!(rt;
-        lowest.choose(question.mask, 0, question.left),
-        question.lowest
-    );
-    assert_eq!(rt;
-        lowest.choose(question.mask, 255, question.left),
-        question.lowest
-    );
-    assert_eq!(rt;
-        staying.choose(question.mask, 0, question.left),
-        question.staying
-    );
-    assert_eq!(rt;
-        staying.choose(question.mask, 255, question.left),
-        question.staying
-    );
+fn picks<C: Chooser>(
+    rt: &impl Abort,
+    chooser: &mut C,
+    mask: u16,
+    left: Option<u32>,
+    row: Option<u32>,
+) {
+    for column in [0, 255] {
+        assert_eq!(rt; pick(chooser, mask, column, left), row);
+    }
 }
 
+// Vacant rows, the row to the left, and the row that lowest and staying pick.
+const QUESTIONS: [(u16, Option<u32>, Option<u32>, Option<u32>); 18] = [
+    (0, None, None, None),
+    (0, Some(1), None, None),
+    (0, Some(16), None, None),
+    (0xffff, None, Some(1), Some(1)),
+    (0xffff, Some(1), Some(1), Some(1)),
+    (0xffff, Some(9), Some(1), Some(9)),
+    (0xffff, Some(16), Some(1), Some(16)),
+    (0xffff, Some(0), Some(1), Some(1)),
+    (0xffff, Some(17), Some(1), Some(1)),
+    (0xffff, Some(4294967295), Some(1), Some(1)),
+    (0x0001, Some(2), Some(1), Some(1)),
+    (0x8000, None, Some(16), Some(16)),
+    (0x8000, Some(15), Some(16), Some(16)),
+    (0x8000, Some(16), Some(16), Some(16)),
+    (0x8001, Some(16), Some(1), Some(16)),
+    (0x0006, Some(3), Some(2), Some(3)),
+    (0x0006, Some(1), Some(2), Some(2)),
+    (0x0006, None, Some(2), Some(2)),
+];
+
 fn at_the_edges(rt: &impl Abort) {
-    let questions = [
-        ask(0, None, None, None),
-        ask(0, Some(1), None, None),
-        ask(0, Some(16), None, None),
-        ask(0xffff, None, Some(1), Some(1)),
-        ask(0xffff, Some(1), Some(1), Some(1)),
-        ask(0xffff, Some(9), Some(1), Some(9)),
-        ask(0xffff, Some(16), Some(1), Some(16)),
-        ask(0xffff, Some(0), Some(1), Some(1)),
-        ask(0xffff, Some(17), Some(1), Some(1)),
-        ask(0xffff, Some(4294967295), Some(1), Some(1)),
-        ask(0x0001, Some(2), Some(1), Some(1)),
-        ask(0x8000, None, Some(16), Some(16)),
-        ask(0x8000, Some(15), Some(16), Some(16)),
-        ask(0x8000, Some(16), Some(16), Some(16)),
-        ask(0x8001, Some(16), Some(1), Some(16)),
-        ask(0x0006, Some(3), Some(2), Some(3)),
-        ask(0x0006, Some(1), Some(2), Some(2)),
-        ask(0x0006, None, Some(2), Some(2)),
-    ];
-    for q in questions {
-        picks(rt, q);
+    for (mask, left, lowest, staying) in QUESTIONS {
+        picks(rt, &mut Lowest, mask, left, lowest);
+        picks(rt, &mut Staying, mask, left, staying);
     }
 }
 
 // With one row vacant, that row is picked, whatever stands to the left.
+fn picks_alone<C: Chooser>(rt: &impl Abort, chooser: &mut C, mask: u16, row: u32) {
+    for left in [None, Some(row), Some(row.wrapping_add(1))] {
+        picks(rt, chooser, mask, left, Some(row));
+    }
+}
+
 fn single_rows(rt: &impl Abort) {
     let mut evening = Evening::new();
-    for row in 1..=16u32 {
-        let mask = 1u16.wrapping_shl(row.wrapping_sub(1));
-        picks(rt, ask(mask, None, Some(row), Some(row)));
-        picks(rt, ask(mask, Some(row), Some(row), Some(row)));
-        picks(
-            rt,
-            ask(mask, Some(row.wrapping_add(1)), Some(row), Some(row)),
-        );
-        assert_eq!(rt; evening.choose(mask, row, None), Some(row));
+    for row in 1..=16 {
+        let mask = 1 << (row - 1);
+        picks_alone(rt, &mut Lowest, mask, row);
+        picks_alone(rt, &mut Staying, mask, row);
+        assert_eq!(rt; pick(&mut evening, mask, row, None), Some(row));
     }
 }
 
@@ -95,24 +78,26 @@ fn lowest_and_staying(rt: HostRuntime) {
 // So many picks of one row.
 fn pick_often(evening: &mut Evening, mask: u16, times: u32) {
     for _ in 0..times {
-        let _ = evening.choose(mask, 3, Some(2));
+        let _ = pick(evening, mask, 3, Some(2));
     }
 }
 
 // A mask, and the row that evening picks after the questions before.
 fn in_turn(rt: &impl Abort, evening: &mut Evening, turns: &[(u16, Option<u32>)]) {
     for (mask, row) in turns {
-        assert_eq!(rt; evening.choose(*mask, 7, Some(5)), *row);
+        assert_eq!(rt; pick(evening, *mask, 7, Some(5)), *row);
     }
 }
 
 // The smallest tally wins, then the lower row; an empty mask adds nothing to any tally.
 fn evening_picks(rt: &impl Abort) {
     let mut evening = Evening::new();
-    for turn in 0..48u32 {
-        let row = (turn % 16).wrapping_add(1);
-        assert_eq!(rt; evening.choose(0, 0, None), None);
-        assert_eq!(rt; evening.choose(0xffff, turn, Some(16)), Some(row));
+    for turn in 0..48 {
+        assert_eq!(rt; pick(&mut evening, 0, 0, None), None);
+        assert_eq!(rt;
+            pick(&mut evening, 0xffff, turn, Some(16)),
+            Some(turn % 16 + 1)
+        );
     }
     let turns = [
         (0x8001, Some(1)),

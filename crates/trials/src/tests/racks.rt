@@ -1,90 +1,108 @@
 //! The racks on which lists of calls are drawn.
-use crate::tests::ledger::zeros;
+use crate::tests::ledger::Rack;
 use crate::tests::prefixed::Prefixed;
-use crate::tests::reading::Which;
-use crate::tests::runs::{Rack, Trial};
+use crate::tests::runs::{Draws, Trial};
+use board::evening::Evening;
+use board::lowest::Lowest;
+use board::staying::Staying;
+use rules::report::Action;
 use std::alloc::Global;
 use std::process::Abort;
 use std::test::Fail;
 
 // The chooser of a run: one of the three at every call, or another one at each.
-fn which(mode: u32, drawn: u32) -> Which {
-    let code = if mode < 3 { mode } else { drawn };
-    match code {
-        0 => Which::Lowest,
-        1 => Which::Staying,
-        _ => Which::Evening,
-    }
+#[derive(Clone, Copy, Debug)]
+enum Mode {
+    Lowest,
+    Staying,
+    Evening,
+    Mixed,
 }
 
-// As many calls as the rack asks for, and a look at everything now and then.
-fn run(rt: &impl Abort, heap: Global, trial: &mut Trial, mode: u32) -> Result<(), Fail> {
-    for call in 0..trial.rack.calls {
+// As many calls as are asked for, and a look at everything now and then.
+fn run(rt: &impl Abort, trial: &mut Trial, mode: Mode) -> Result<(), Fail> {
+    let mut evening = Evening::new();
+    for call in 0..trial.draws.calls {
         let drawn = trial.chance.below(3);
-        trial.call(
-            &Prefixed::new(rt, format_args!("call {call}, mode {mode}")),
-            which(mode, drawn),
-        )?;
+        let here = Prefixed::new(rt, format_args!("call {call}, mode {mode:?}"));
+        // each chooser is a type of its own, and a `dyn` cannot stand for a type parameter
+        match (mode, drawn) {
+            (Mode::Lowest, _) | (Mode::Mixed, 0) => trial.call(&here, &mut Lowest)?,
+            (Mode::Staying, _) | (Mode::Mixed, 1) => trial.call(&here, &mut Staying)?,
+            (Mode::Evening, _) | (Mode::Mixed, _) => trial.call(&here, &mut evening)?,
+        }
         if call % 16 == 15 {
-            trial.survey(
-                &Prefixed::new(rt, format_args!("after call {call}, mode {mode}")),
-                heap,
-            )?;
+            trial.survey(&Prefixed::new(rt, format_args!("after call {call}, mode {mode:?}")))?;
         }
     }
-    trial.survey(rt, heap)
+    trial.survey(rt)
 }
 
-// Adds what a run has told to the sums over all runs: reports of each action, and hand-backs.
-fn add_up(sums: &mut Vec<u32>, trial: &Trial) {
-    for action in 0..7u32 {
-        if let Some(sum) = sums.get_mut(action as usize) {
-            *sum = sum.wrapping_add(trial.ledger.reports_of(action));
+const ACTIONS: [Action; 6] = [
+    Action::Wipe,
+    Action::Over,
+    Action::Without,
+    Action::Grant,
+    Action::Mark,
+    Action::Wall,
+];
+
+// What the runs so far have told: how many reports of each action, and hand-backs.
+#[derive(Clone, Copy, Default, Debug)]
+struct Sums {
+    reports: [usize; 6],
+    returned: usize,
+}
+
+impl Sums {
+    fn add(&mut self, trial: &Trial) {
+        for (sum, action) in self.reports.iter_mut().zip(ACTIONS) {
+            *sum = sum.saturating_add(trial.ledger.reports_of(action));
         }
+        self.returned = self.returned.saturating_add(trial.returned);
     }
-    if let Some(sum) = sums.get_mut(0) {
-        *sum = sum.wrapping_add(trial.returned);
+
+    // Each action, and handing back, has come often enough for the runs to say something.
+    fn enough(&self, rt: &impl Abort, least: usize) {
+        assert!(rt; self.returned >= least, "{self:?}");
+        assert!(rt; self.reports.iter().all(|sum| *sum >= least), "{self:?}");
     }
 }
 
+// A run in each mode, with a seed of its own.
 fn all_modes(
     rt: &impl Abort,
     heap: Global,
-    rack: Rack,
+    draws: Draws,
     seed: u32,
-    sums: &mut Vec<u32>,
+    sums: &mut Sums,
 ) -> Result<(), Fail> {
-    for mode in 0..4u32 {
-        let mut trial = Trial::new(heap, rack, seed.wrapping_mul(4).wrapping_add(mode))?;
+    let modes = [Mode::Lowest, Mode::Staying, Mode::Evening, Mode::Mixed];
+    for (mode, last) in modes.into_iter().zip(0..) {
+        let mut trial = Trial::new(heap, draws, seed.wrapping_mul(4).wrapping_add(last))?;
         run(
-            &Prefixed::new(rt, format_args!("seed {seed}, {rack:?}")),
-            heap,
+            &Prefixed::new(rt, format_args!("seed {seed}, {draws:?}")),
             &mut trial,
             mode,
         )?;
-        add_up(sums, &trial);
+        sums.add(&trial);
     }
     Ok(())
 }
 
-// Each action, and handing back, has come often enough for the runs to say something.
-fn enough(rt: &impl Abort, sums: &Vec<u32>, least: u32) {
-    for sum in sums.iter() {
-        assert!(rt; *sum >= least, "{sums:?}");
-    }
-}
-
 // One of the 675 small racks.
-fn small(code: u32) -> Rack {
-    let columns = (code / 3 % 9).wrapping_add(1);
-    Rack {
-        rows: (code % 3).wrapping_add(1),
-        columns,
-        places: (code / 27 % 5).wrapping_add(1),
-        lead: code / 135 % 5,
-        first: code.wrapping_add(1),
+fn small(code: u32) -> Draws {
+    let columns = code / 3 % 9 + 1;
+    Draws {
+        rack: Rack {
+            rows: code % 3 + 1,
+            columns,
+            places: code / 27 % 5 + 1,
+            lead: code / 135 % 5,
+            first: code.wrapping_add(1),
+        },
         base: 0,
-        spread: columns.wrapping_add(1),
+        spread: columns + 1,
         longest: columns,
         newest: code % 4 == 3,
         calls: 1000,
@@ -93,27 +111,23 @@ fn small(code: u32) -> Rack {
 
 #[test]
 fn small_racks(rt: HostRuntime) -> Result<(), Fail> {
-    let mut sums = zeros(rt.alloc(), 7)?;
-    for code in 0..675u32 {
-        all_modes(
-            &rt,
-            rt.alloc(),
-            small(code),
-            code.wrapping_add(77),
-            &mut sums,
-        )?;
+    let mut sums = Sums::default();
+    for code in 0..675 {
+        all_modes(&rt, rt.alloc(), small(code), code + 77, &mut sums)?;
     }
-    enough(&rt, &sums, 10000);
+    sums.enough(&rt, 10000);
     Ok(())
 }
 
-fn full(lead: u32, first: u32, base: u32, longest: u32, newest: bool) -> Rack {
-    Rack {
-        rows: 16,
-        columns: 256,
-        places: 64,
-        lead,
-        first,
+fn full(lead: u32, first: u32, base: u32, longest: u32, newest: bool) -> Draws {
+    Draws {
+        rack: Rack {
+            rows: 16,
+            columns: 256,
+            places: 64,
+            lead,
+            first,
+        },
         base,
         spread: 256u32.wrapping_sub(base),
         longest,
@@ -133,16 +147,10 @@ fn full_racks(rt: HostRuntime) -> Result<(), Fail> {
         full(64, 1, 236, 16, false),
         full(64, 1, 250, 6, false),
     ];
-    let mut sums = zeros(rt.alloc(), 7)?;
-    for (seed, rack) in racks.iter().enumerate() {
-        all_modes(
-            &rt,
-            rt.alloc(),
-            *rack,
-            (seed as u32).wrapping_add(900),
-            &mut sums,
-        )?;
+    let mut sums = Sums::default();
+    for (draws, seed) in racks.into_iter().zip(900..) {
+        all_modes(&rt, rt.alloc(), draws, seed, &mut sums)?;
     }
-    enough(&rt, &sums, 1000);
+    sums.enough(&rt, 1000);
     Ok(())
 }

@@ -1,78 +1,70 @@
 //! All that can be seen of a board, held against the slow ledger.
-use crate::tests::ledger::{Booking, Kind, zeros};
+use crate::tests::ledger::{Kind, columns_of};
 use crate::tests::runs::Trial;
+use rules::report::Action;
+use rules::span::Span;
 use rules::ticket::Stage;
-use std::alloc::Global;
+use std::alloc::AllocError;
+use std::mem;
 use std::process::Abort;
 use std::test::Fail;
 
 impl Trial {
     // The tickets are those of the bookings that have one, in rising order.
     fn tickets_agree(&self, rt: &impl Abort) {
-        let mut last = 0;
-        let mut count = 0u32;
-        for ticket in self.board.tickets() {
+        let tickets = self.board.tickets();
+        assert!(rt; tickets.is_sorted_by(|one, next| one.number < next.number));
+        assert_eq!(rt; tickets.len(), self.ledger.in_use());
+        assert!(rt; tickets.len() <= self.draws.rack.places as usize);
+        for ticket in tickets {
             let booking = self
                 .ledger
                 .booking(ticket.number)
                 .expect(rt, "no such booking");
-            assert!(rt; ticket.number > last);
+            assert!(rt; ticket.number > 0);
             assert_eq!(rt; ticket.phase.stage(), booking.stage());
-            assert_eq!(rt; ticket.request.start, booking.start);
-            assert_eq!(rt; ticket.request.length, booking.length);
+            assert_eq!(rt; ticket.request, booking.request);
             assert_eq!(rt; ticket.marks, booking.marks);
-            last = ticket.number;
-            count = count.wrapping_add(1);
         }
-        assert_eq!(rt; count, self.ledger.in_use());
-        assert!(rt; count <= self.rack.places);
-    }
-
-    // How many tickets are seeking, and how many are granted or out.
-    fn seeking_and_booked(&self) -> (u32, u32) {
-        let mut seeking = 0u32;
-        let mut booked = 0u32;
-        for ticket in self.board.tickets() {
-            if ticket.phase.stage() == Stage::Seeking {
-                seeking = seeking.wrapping_add(1);
-            }
-            if ticket.phase.is_hard() {
-                booked = booked.wrapping_add(1);
-            }
-        }
-        (seeking, booked)
     }
 
     // The five kinds add up to the bookings taken.
     fn accounts_balance(&self, rt: &impl Abort) {
-        let (undecided, standing) = self.seeking_and_booked();
-        let without = self.ledger.reports_of(3);
-        assert_eq!(rt; undecided, self.ledger.of_kind(Kind::Undecided));
-        assert_eq!(rt; standing, self.ledger.of_kind(Kind::Standing));
-        assert_eq!(rt;
-            standing.wrapping_add(self.returned),
-            self.ledger.reports_of(4)
-        );
-        let decided = without.wrapping_add(standing).wrapping_add(self.returned);
+        let tickets = self.board.tickets();
+        let undecided = tickets
+            .iter()
+            .filter(|ticket| ticket.phase.stage() == Stage::Seeking)
+            .count();
+        let standing = tickets
+            .iter()
+            .filter(|ticket| ticket.phase.is_hard())
+            .count();
+        let granted = standing.wrapping_add(self.returned);
+        let decided = self
+            .ledger
+            .reports_of(Action::Without)
+            .wrapping_add(granted);
+        assert_eq!(rt; undecided, self.ledger.undecided());
+        assert_eq!(rt; standing, self.ledger.standing());
+        assert_eq!(rt; granted, self.ledger.reports_of(Action::Grant));
         assert_eq!(rt;
             decided.wrapping_add(undecided).wrapping_add(self.withdrawn),
-            self.ledger.taken
+            self.ledger.bookings.len()
         );
     }
 
     // Each column shows as many marks as the reports leave in it.
     fn marks_agree(&self, rt: &impl Abort) {
-        for column in 0..self.rack.columns {
-            assert_eq!(rt; self.board.show(column), Ok(self.ledger.marks_in(column)));
+        for column in 0..self.draws.rack.columns {
+            let shown = self.board.show(column).map(|marks| marks as usize);
+            assert_eq!(rt; shown, Ok(self.ledger.marks_in(column)));
         }
     }
 
     // Every number ever given is in its stage, and those around them are idle.
     fn stages_agree(&self, rt: &impl Abort) {
-        assert_eq!(rt;
-            self.board.stage(self.rack.first.wrapping_sub(1)),
-            Stage::Idle
-        );
+        let before = self.draws.rack.first.wrapping_sub(1);
+        assert_eq!(rt; self.board.stage(before), Stage::Idle);
         assert_eq!(rt; self.board.stage(self.next()), Stage::Idle);
         for booking in self.ledger.bookings.iter() {
             assert_eq!(rt; self.board.stage(booking.number), booking.stage());
@@ -80,40 +72,33 @@ impl Trial {
     }
 
     // Each row told of a window is that of the latest mark there, and no slot is told twice.
-    fn window_told(&self, rt: &impl Abort, booking: Booking, told: &mut Vec<u32>) {
-        for offset in 0..booking.length {
-            let column = booking.first.wrapping_add(offset);
-            let row = self
-                .board
-                .row(booking.number, offset)
-                .expect(rt, "no such row");
-            assert_eq!(rt; self.ledger.row_of(booking.number, column), Some(row));
-            let place = column
-                .wrapping_mul(self.rack.rows)
-                .wrapping_add(row)
-                .wrapping_sub(1);
-            let slot = told.get_mut(place as usize).expect(rt, "no such slot");
-            assert!(rt; *slot == 0);
-            *slot = booking.number;
+    fn window_told(&self, rt: &impl Abort, number: u32, window: Span, told: &mut [bool]) {
+        for (column, offset) in columns_of(window).zip(0..) {
+            let row = self.board.row(number, offset).expect(rt, "no such row");
+            assert_eq!(rt; self.ledger.row_of(Some(number), column), Some(row));
+            let place = self.draws.rack.place(column, row);
+            let slot = told.get_mut(place).expect(rt, "no such slot");
+            assert!(rt; !mem::replace(slot, true));
         }
     }
 
-    fn windows_told(&self, rt: &impl Abort, heap: Global) -> Result<(), Fail> {
-        let mut told = zeros(heap, self.rack.rows.wrapping_mul(self.rack.columns))?;
+    fn windows_told(&self, rt: &impl Abort) -> Result<(), AllocError> {
+        let mut told = vec![in self.heap; false; self.draws.rack.slots()]?;
         for booking in self.ledger.bookings.iter() {
-            if booking.stage() == Stage::Out {
-                self.window_told(rt, *booking, &mut told);
+            if let (Stage::Out, Kind::Standing(window)) = (booking.stage(), booking.kind) {
+                self.window_told(rt, booking.number, window, &mut told);
             }
         }
         Ok(())
     }
 
     /// Looks at everything.
-    pub(super) fn survey(&self, rt: &impl Abort, heap: Global) -> Result<(), Fail> {
+    pub(super) fn survey(&self, rt: &impl Abort) -> Result<(), Fail> {
         self.tickets_agree(rt);
         self.accounts_balance(rt);
         self.marks_agree(rt);
         self.stages_agree(rt);
-        self.windows_told(rt, heap)
+        self.windows_told(rt)?;
+        Ok(())
     }
 }
