@@ -176,10 +176,10 @@ open_by : (x : Rack) (z : Sizes) (first : ℕ) (b : Bool) → openable z first �
     × ((e : Refusal) → Err e ≡ (open' x z first).answer → (openable z first ≡ false) × (e ≡ refusal.Limits))
 open_by x z first true p =
     let o : (open' x z first).answer ≡ Ok tt = rw p refl in
-    (λ _. p, λ e q. let w : ◌≡◌ {A = ℕ} 0 1 = cc in absurd (omega arith))
+    (λ _. p, λ e q. cc)
 open_by x z first false p =
     let o : (open' x z first).answer ≡ Err refusal.Limits = rw p refl in
-    (λ q. let w : ◌≡◌ {A = ℕ} 0 1 = cc in absurd (omega arith), λ e q. (p, err_inj e refusal.Limits (q ∙ o)))
+    (λ q. cc, λ e q. (p, err_inj e refusal.Limits (q ∙ o)))
   where
     err_inj : (a b : Refusal) → ◌≡◌ {A = Result (Unit {0}) Refusal} (Err a) (Err b) → a ≡ b
     err_inj a b e = cc

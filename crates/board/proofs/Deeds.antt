@@ -23,11 +23,11 @@ use Rattle.board.specs.Acting.{list_of, Replaced, Writes}
 use Rattle.board.proofs.Places.{at_in}
 
 retreats_marks : (z : Sizes) (t : Ticket) (p : Phase) → Shape z p t → retreats p ≡ true → 1 ≤ t.marks
-retreats_marks z t Forward s e = let y : ◌≡◌ {A = ℕ} 0 1 = cc in absurd (omega arith)
+retreats_marks z t Forward s e = cc
 retreats_marks z t (Backing g) s e = s.0
-retreats_marks z t Without s e = let y : ◌≡◌ {A = ℕ} 0 1 = cc in absurd (omega arith)
-retreats_marks z t Granted s e = let y : ◌≡◌ {A = ℕ} 0 1 = cc in absurd (omega arith)
-retreats_marks z t Out s e = let y : ◌≡◌ {A = ℕ} 0 1 = cc in absurd (omega arith)
+retreats_marks z t Without s e = cc
+retreats_marks z t Granted s e = cc
+retreats_marks z t Out s e = cc
 retreats_marks z t Closing s e = s.0
 
 -- what is told of a ticket on the board
@@ -76,7 +76,7 @@ module _ (r : Rack) (sd : Sound r) (i : ℕ) (t : Ticket) (h : i < length r.tick
         λ z.
             let a : eqb (mask_of (cells r (ahead t))) 0 ≡ true = ap (λ (n : ℕ). eqb n 0) (sym e1 ∙ z) in
             let b : eqb (mask_of (cells r (ahead t))) 0 ≡ false = mask_zero (cells r (ahead t)) ∙ ap not y.3 in
-            let n : false ≡ true = sym b ∙ a in let w : ◌≡◌ {A = ℕ} 0 1 = cc in omega arith,
+            let n : false ≡ true = sym b ∙ a in cc,
       )
 
 -- what the row of a mark and of a wipe says of the whole action

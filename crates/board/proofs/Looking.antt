@@ -37,13 +37,13 @@ blocked_split r t = at (is_forward t.phase) (ltb t.marks t.request.length) (not 
 free_by : (a v w : Bool) → (v ≡ true) → (a && (not v && not w)) ≡ false
 free_by true true w e = refl
 free_by false true w e = refl
-free_by a false w e = let z : ◌≡◌ {A = ℕ} 0 1 = cc in absurd (omega arith)
+free_by a false w e = cc
 
 free_at_wall : (a v w : Bool) → (w ≡ true) → (a && (not v && not w)) ≡ false
 free_at_wall true true true e = refl
 free_at_wall true false true e = refl
 free_at_wall false v true e = refl
-free_at_wall a v false e = let z : ◌≡◌ {A = ℕ} 0 1 = cc in absurd (omega arith)
+free_at_wall a v false e = cc
 
 pub free_vacant : (r : Rack) (t : Ticket) (m : ℕ) → m ≡ mask_of (cells r (ahead t)) → (m ≡ 0 → ⊥) → blocked r t ≡ false
 free_vacant r t m k n =

@@ -1,5 +1,5 @@
 -- The promise of the model's calls, at the board that a call of the code left.
-use Rattle.std.proofs.Common.{◌≡◌, ℕ, Bool, true, false, cond, List, [], ◌∷◌, ◌++◌, Ok, Err, Result, sym, refl, ◌∙◌, subst, arith}
+use Rattle.std.proofs.Common.{◌≡◌, ℕ, Bool, true, false, cond, List, [], ◌∷◌, ◌++◌, Ok, Err, Result, sym, refl, ◌∙◌, subst}
 use Rattle.rules.specs.declared.refusal.Refusal.{Refusal}
 use Rattle.rules.specs.declared.refusal.Refusal.TheVariants as refusal
 use Rattle.rules.specs.declared.slot.Slot.{Slot}
@@ -29,7 +29,7 @@ open_reaches_at : (x : Rack) (z : Sizes) (first : ℕ) (b : Bool) → openable z
 open_reaches_at x z first true e k a = (z, first, e, rw e refl)
 open_reaches_at x z first false e k a =
     let n : ◌≡◌ {A = Result (Unit {0}) Refusal} (open' x z first).answer (Err refusal.Limits) = rw e refl in
-    let w : ◌≡◌ {A = ℕ} 0 1 = cc in absurd (omega arith)
+    cc
 
 pub open_reaches : (x y : Rack) (z : Sizes) (first : ℕ) (r : Result (Unit {0}) Refusal) → r ≡ (open' x z first).answer → y ≡ (open' x z first).rack → r ≡ Ok tt → Reaches [] y
 open_reaches x y z first r a e k = subst (Reaches []) (sym e) (open_reaches_at x z first (openable z first) refl refl (sym a ∙ k))

@@ -14,14 +14,14 @@ use Rattle.rules.proofs.Plays.{steps_none, steps_more}
 
 module _ {S : Type 0} (m : Meaning S) (x : Rack) (n : ℕ) (s : S) where
   stops_at : (k : ℕ) (e : Refusal) (d : Result Ticket Refusal) → due x n ≡ d → (step_with m x s d).answer ≡ Err e → steps m (suc k) x n s ≡ still x s
-  stops_at k e (Ok t) q p = let z : ◌≡◌ {A = ℕ} 0 1 = cc in absurd (omega arith)
+  stops_at k e (Ok t) q p = cc
   stops_at k e (Err f) q p = steps_none m k x n s f q
 
   stops : (k l : ℕ) (e : Refusal) → l ≡ suc k → Err e ≡ (step m x n s).answer → steps m l x n s ≡ still x s
   stops k l e q p = ap (λ (i : ℕ). steps m i x n s) q ∙ stops_at k e (due x n) refl (sym p)
 
   held_at : (e : Refusal) (d : Result Ticket Refusal) → (step_with m x s d).answer ≡ Err e → ((step_with m x s d).ran.rack ≡ x) × ((step_with m x s d).ran.held ≡ s)
-  held_at e (Ok t) p = let z : ◌≡◌ {A = ℕ} 0 1 = cc in absurd (omega arith)
+  held_at e (Ok t) p = cc
   held_at e (Err f) p = (refl, refl)
 
   goes_at : (k : ℕ) (r : Report) (d : Result Ticket Refusal) → due x n ≡ d → (step_with m x s d).answer ≡ Ok r
@@ -30,7 +30,7 @@ module _ {S : Type 0} (m : Meaning S) (x : Rack) (n : ℕ) (s : S) where
         rack = (steps m k (step_with m x s d).ran.rack n (step_with m x s d).ran.held).rack;
         held = (steps m k (step_with m x s d).ran.rack n (step_with m x s d).ran.held).held;
       }
-  goes_at k r (Err f) q p = let z : ◌≡◌ {A = ℕ} 0 1 = cc in absurd (omega arith)
+  goes_at k r (Err f) q p = cc
   goes_at k r (Ok t) q p =
       steps_more m k x n s t q
       ∙ ap (λ (v : Report). let ran : Ran S = record {

@@ -80,11 +80,11 @@ gone_at c t true e h =
 gone_at c t false e h = omega (arith, last_mark t.first t.marks c h)
 
 wipe_marks : (z : Sizes) (n c : ℕ) (t : Ticket) (p : Phase) → retreats p ≡ true → Shape z p t → total (one c) (wiped n p t) + unit (eqb c (ahead t - 1)) ≡ one c t + 0
-wipe_marks z n c t Forward e s = let y : ◌≡◌ {A = ℕ} 0 1 = cc in absurd (omega arith)
+wipe_marks z n c t Forward e s = cc
 wipe_marks z n c t (Backing g) e s = omega (arith, wiped_at n c t g (leb t.marks 1) refl s.0)
-wipe_marks z n c t Without e s = let y : ◌≡◌ {A = ℕ} 0 1 = cc in absurd (omega arith)
-wipe_marks z n c t Granted e s = let y : ◌≡◌ {A = ℕ} 0 1 = cc in absurd (omega arith)
-wipe_marks z n c t Out e s = let y : ◌≡◌ {A = ℕ} 0 1 = cc in absurd (omega arith)
+wipe_marks z n c t Without e s = cc
+wipe_marks z n c t Granted e s = cc
+wipe_marks z n c t Out e s = cc
 wipe_marks z n c t Closing e s = omega (arith, gone_at c t (leb t.marks 1) refl s.0)
 
 redirect_marks : (n c g : ℕ) (t : Ticket) (b : Bool) → eqb t.marks 0 ≡ b → one c (cond b (sets_out n g t) (with_phase (Backing g) t)) ≡ one c t

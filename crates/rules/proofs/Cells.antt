@@ -116,7 +116,7 @@ row_held n [] h = absurd (omega arith)
 row_held n (s ∷ ss) h = row_at n s ss (holds n s) refl h (λ k. row_held n ss k)
 
 pub holds_mark : (n : ℕ) (s : Slot) → holds n s ≡ true → s ≡ Marked n
-holds_mark n Vacant e = let z : ◌≡◌ {A = ℕ} 0 1 = cc in absurd (omega arith)
+holds_mark n Vacant e = cc
 holds_mark n (Marked m) e = ap Marked (grind (arith, nat_tests))
 
 -- a rack just opened has nothing but vacant cells

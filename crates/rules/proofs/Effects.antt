@@ -1,5 +1,5 @@
 -- What an accepted call did: one case for each kind. The other proofs know the calls by these cases alone.
-use Rattle.std.proofs.Common.{◌≡◌, ℕ, ◌+◌, ◌<◌, ◌≤◌, Bool, true, false, cond, not, ◌&&◌, ltb, leb, List, [], ◌∷◌, length, Some, None, Ok, Err, Option, Result, sym, refl, ap, subst, arith}
+use Rattle.std.proofs.Common.{◌≡◌, ℕ, ◌+◌, ◌<◌, ◌≤◌, Bool, true, false, cond, not, ◌&&◌, ltb, leb, List, [], ◌∷◌, length, Some, None, Ok, Err, Option, Result, sym, refl, ap, subst}
 use Rattle.std.proofs.lemmas.Bool.{and_parts, ltb-false, leb-true, leb-false, eqb-true}
 use Rattle.rules.specs.declared.span.Span.{Span}
 use Rattle.rules.specs.declared.ticket.Request.{Request}
@@ -66,7 +66,7 @@ found_own ts n t f =
     (e, subst (λ (k : ℕ). find (named k) ts ≡ Some t) (sym e) f)
 
 ok_err : {A : Type 0} (a : A) (e : Refusal) → Err e ≡ Ok a → ⊥
-ok_err a e p = let z : ◌≡◌ {A = ℕ} 0 1 = cc in omega arith
+ok_err a e p = cc
 
 ok_inj : {A : Type 0} (a b : A) → ◌≡◌ {A = Result A Refusal} (Ok a) (Ok b) → a ≡ b
 ok_inj a b p = cc

@@ -17,7 +17,7 @@ use Rattle.rules.specs.Play.{Call, Told, recalling, reporting, turned}
 use Rattle.rules.specs.Wrongs.{walk_by, due_for_by, due_by, steps_by, turned_by, right, passed_told, restless_told, WrongRulesBreakTheLaws}
 
 true_false : true ≡ false → ⊥
-true_false p = let z : ◌≡◌ {A = ℕ} 0 1 = cc in omega arith
+true_false p = cc
 
 walk_right_at : (n : ℕ) (r : Rack) (s t : Ticket) (b : Bool) → blocked r t ≡ b → last_of t (walk n r (passed_to r t)) ≡ walk_by right n r (passed_to r t)
     → last_of s (walk (suc n) r t) ≡ walk_by right (suc n) r t

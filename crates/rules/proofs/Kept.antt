@@ -81,11 +81,11 @@ fit_wiped_close z n t false e p f s =
     (fit_marks z n (t.marks - 1) t f (omega arith) (omega arith) (subst (λ (q : Phase). Shape z q (with_marks (t.marks - 1) t)) (sym p) (omega arith, s.1)), tt)
 
 fit_wiped : (z : Sizes) (n : ℕ) (t : Ticket) (p : Phase) → t.phase ≡ p → retreats p ≡ true → Fit z n t → Shape z p t → AllByRecursion (Fit z n) (wiped n p t)
-fit_wiped z n t Forward q e f s = let y : ◌≡◌ {A = ℕ} 0 1 = cc in absurd (omega arith)
+fit_wiped z n t Forward q e f s = cc
 fit_wiped z n t (Backing g) q e f s = (fit_wiped_back z n g t (leb t.marks 1) refl q f s, tt)
-fit_wiped z n t Without q e f s = let y : ◌≡◌ {A = ℕ} 0 1 = cc in absurd (omega arith)
-fit_wiped z n t Granted q e f s = let y : ◌≡◌ {A = ℕ} 0 1 = cc in absurd (omega arith)
-fit_wiped z n t Out q e f s = let y : ◌≡◌ {A = ℕ} 0 1 = cc in absurd (omega arith)
+fit_wiped z n t Without q e f s = cc
+fit_wiped z n t Granted q e f s = cc
+fit_wiped z n t Out q e f s = cc
 fit_wiped z n t Closing q e f s = fit_wiped_close z n t (leb t.marks 1) refl q f s
 
 shape_at : (z : Sizes) (n : ℕ) (t : Ticket) (p : Phase) → t.phase ≡ p → Fit z n t → Shape z p t
@@ -141,11 +141,11 @@ one_at_most true = omega arith
 one_at_most false = omega arith
 
 soft_live : (t : Ticket) (p : Phase) → t.phase ≡ p → retreats p ≡ true → (n : ℕ) → total alive (wiped n p t) ≤ unit (live p)
-soft_live t Forward q e n = let y : ◌≡◌ {A = ℕ} 0 1 = cc in absurd (omega arith)
+soft_live t Forward q e n = cc
 soft_live t (Backing g) q e n = let k = one_at_most (live (cond (leb t.marks 1) (sets_out n g t) (with_marks (t.marks - 1) t)).phase) in omega arith
-soft_live t Without q e n = let y : ◌≡◌ {A = ℕ} 0 1 = cc in absurd (omega arith)
-soft_live t Granted q e n = let y : ◌≡◌ {A = ℕ} 0 1 = cc in absurd (omega arith)
-soft_live t Out q e n = let y : ◌≡◌ {A = ℕ} 0 1 = cc in absurd (omega arith)
+soft_live t Without q e n = cc
+soft_live t Granted q e n = cc
+soft_live t Out q e n = cc
 soft_live t Closing q e n = at (leb t.marks 1)
   where
     at : (b : Bool) → total alive (cond b [] (with_marks (t.marks - 1) t ∷ [])) ≤ 0

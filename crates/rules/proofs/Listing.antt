@@ -13,7 +13,7 @@ pub some_inj : {X : Type 0} (x y : X) → Some x ≡ Some y → x ≡ y
 some_inj x y p = cc
 
 pub some_none : {X : Type 0} (x : X) → Some x ≡ None → ⊥
-some_none x p = let z : ◌≡◌ {A = ℕ} 0 1 = cc in omega arith
+some_none x p = cc
 
 module _ {X : Type 0} where
   pub total_append : (g : X → ℕ) (xs ys : List X) → total g (xs ++ ys) ≡ total g xs + total g ys
@@ -60,7 +60,7 @@ module _ {X : Type 0} where
   found_at : (p : X → Bool) (y : X) (ys : List X) (x : X) (b : Bool) → p y ≡ b → p x ≡ true → In x (y ∷ ys)
       → (In x ys → (o : X) × (find p ys ≡ Some o)) → (o : X) × (cond b (Some y) (find p ys) ≡ Some o)
   found_at p y ys x true e q i ih = (y, refl)
-  found_at p y ys x false e q (inl a) ih = let z : false ≡ true = sym e ∙ (ap p a ∙ q) in absurd (let k : ◌≡◌ {A = ℕ} 0 1 = cc in omega arith)
+  found_at p y ys x false e q (inl a) ih = let z : false ≡ true = sym e ∙ (ap p a ∙ q) in cc
   found_at p y ys x false e q (inr i) ih = ih i
 
   -- some entry passes, so one is found

@@ -26,11 +26,11 @@ mask_bit (s ∷ ss) (suc i) = ap (bit i) (high_bits (is_vacant s) (mask_of ss)) 
 
 is_vacant_lem : (s : Slot) → is_vacant s ≡ true → s ≡ Vacant
 is_vacant_lem Vacant e = refl
-is_vacant_lem (Marked n) e = let z : ◌≡◌ {A = ℕ} 0 1 = cc in absurd (omega arith)
+is_vacant_lem (Marked n) e = cc
 
 -- a vacant slot stands within the column
 within_column : (ss : List Slot) (i : ℕ) → is_vacant (get_or ss i (Marked 0)) ≡ true → i < length ss
-within_column [] i e = let z : ◌≡◌ {A = ℕ} 0 1 = cc in absurd (omega arith)
+within_column [] i e = cc
 within_column (s ∷ ss) zero e = omega arith
 within_column (s ∷ ss) (suc i) e = let k = within_column ss i e in omega arith
 
@@ -55,7 +55,7 @@ vacant_row ss i most inside v =
     rw (a, b, c) refl
 
 vacant_at : (ss : List Slot) → any_of is_vacant ss ≡ true → (i : ℕ) × (is_vacant (get_or ss i (Marked 0)) ≡ true)
-vacant_at [] e = let z : ◌≡◌ {A = ℕ} 0 1 = cc in absurd (omega arith)
+vacant_at [] e = cc
 vacant_at (Vacant ∷ ss) e = (0, refl)
 vacant_at (Marked n ∷ ss) e = let k = vacant_at ss e in (suc k.0, k.1)
 

@@ -30,9 +30,6 @@ use Rattle.rules.proofs.Kept.{sizes_stay}
 use Rattle.rules.proofs.Masks.{some_vacant}
 
 -- two constructors are never equal
-clash : {P : Type 0} → ◌≡◌ {A = ℕ} 0 1 → P
-clash e = absurd (omega arith)
-
 -- a rack has at most 16 rows
 rows_new : (x : Rack) → New x → x.sizes.rows ≤ 16
 rows_new x (z, first, o, e) =
@@ -130,7 +127,7 @@ module _ {S : Type 0} (m : Meaning S) (lawful : Lawful m) where
 module _ {S : Type 0} (m : Meaning S) where
   step_refused_at : (x : Rack) (s : S) (e : Refusal) (o : Result Ticket Refusal) → (step_with m x s o).answer ≡ Err e → (step_with m x s o).ran ≡ still x s
   step_refused_at x s e (Err f) k = refl
-  step_refused_at x s e (Ok t) k = clash (cc)
+  step_refused_at x s e (Ok t) k = cc
 
   -- a refused step or drive changes nothing
   pub step_refused : (x : Rack) (n : ℕ) (s : S) (e : Refusal) → (step m x n s).answer ≡ Err e → (step m x n s).ran ≡ still x s
@@ -140,7 +137,7 @@ module _ {S : Type 0} (m : Meaning S) where
       → let o : Moved (ℕ × Stage) S = cond b (record { answer = Err refusal.Full; ran = none }) (record { answer = Ok a; ran = all }) in
       o.answer ≡ Err e → o.ran ≡ none
   full_at none all a e true k = refl
-  full_at none all a e false k = clash (cc)
+  full_at none all a e false k = cc
 
   drive_refused_at : (x : Rack) (n budget room : ℕ) (s : S) (e : Refusal) (o : Result Ticket Refusal) → (drive_with m x n budget room s o).answer ≡ Err e
       → (drive_with m x n budget room s o).ran ≡ still x s
@@ -152,7 +149,7 @@ module _ {S : Type 0} (m : Meaning S) where
 
 -- an accepted book, collect, drop or back tells its event
 book_at : (x : Rack) (q : Request) (n : ℕ) (o : Option Refusal) → admission x q ≡ o → (book_with x q o).answer ≡ Ok n → Accepts x (Event.taken n q) (book_with x q o).rack
-book_at x q n (Some e) a k = clash (cc)
+book_at x q n (Some e) a k = cc
 book_at x q n None a k = let e : x.next ≡ n = cc in subst (λ (i : ℕ). Accepts x (Event.taken i q) (book_with x q None).rack) e (Accepts.books q a)
 
 pub book_accepts : (x : Rack) (q : Request) (n : ℕ) → (book x q).answer ≡ Ok n → Accepts x (Event.taken n q) (book x q).rack
@@ -166,14 +163,14 @@ refused_at x g e (Some t) k r = k t r
 
 book_refused_at : (x : Rack) (q : Request) (e : Refusal) (o : Option Refusal) → (book_with x q o).answer ≡ Err e → (book_with x q o).rack ≡ x
 book_refused_at x q e (Some f) r = refl
-book_refused_at x q e None r = clash (cc)
+book_refused_at x q e None r = cc
 
 pub book_refused : (x : Rack) (q : Request) (e : Refusal) → (book x q).answer ≡ Err e → (book x q).rack ≡ x
 book_refused x q e r = book_refused_at x q e (admission x q) r
 
 collect_refused_at : (x : Rack) (t : Ticket) (e : Refusal) (p : Phase) → (collect_at x t p).answer ≡ Err e → (collect_at x t p).rack ≡ x
-collect_refused_at x t e Granted r = clash (cc)
-collect_refused_at x t e Without r = clash (cc)
+collect_refused_at x t e Granted r = cc
+collect_refused_at x t e Without r = cc
 collect_refused_at x t e Forward r = refl
 collect_refused_at x t e (Backing g) r = refl
 collect_refused_at x t e Out r = refl
@@ -183,8 +180,8 @@ pub collect_refused : (x : Rack) (n : ℕ) (e : Refusal) → (collect x n).answe
 collect_refused x n e r = refused_at x (λ t. collect_at x t t.phase) e (find (named n) x.tickets) (λ t k. collect_refused_at x t e t.phase k) r
 
 drop_refused_at : (x : Rack) (t : Ticket) (e : Refusal) (p : Phase) → (drop_at x t p).answer ≡ Err e → (drop_at x t p).rack ≡ x
-drop_refused_at x t e Forward r = clash (cc)
-drop_refused_at x t e (Backing g) r = clash (cc)
+drop_refused_at x t e Forward r = cc
+drop_refused_at x t e (Backing g) r = cc
 drop_refused_at x t e Without r = refl
 drop_refused_at x t e Granted r = refl
 drop_refused_at x t e Out r = refl
@@ -194,7 +191,7 @@ pub drop_refused : (x : Rack) (n : ℕ) (e : Refusal) → (drop' x n).answer ≡
 drop_refused x n e r = refused_at x (λ t. drop_at x t t.phase) e (find (named n) x.tickets) (λ t k. drop_refused_at x t e t.phase k) r
 
 back_refused_at : (x : Rack) (t : Ticket) (e : Refusal) (p : Phase) → (back_at x t p).answer ≡ Err e → (back_at x t p).rack ≡ x
-back_refused_at x t e Out r = clash (cc)
+back_refused_at x t e Out r = cc
 back_refused_at x t e Forward r = refl
 back_refused_at x t e (Backing g) r = refl
 back_refused_at x t e Without r = refl
@@ -246,15 +243,15 @@ abbrev Settled : Stage → Type 0
 Settled last = (last ≡ stage.Seeking → ⊥) × (last ≡ stage.Closing → ⊥)
 
 settled_phase : (w : Ticket) (p : Phase) (e : Refusal) → cond (soft p) (Ok w) (Err refusal.Stage) ≡ Err e → Settled (stage_of p)
-settled_phase w Forward e d = clash (cc)
-settled_phase w (Backing g) e d = clash (cc)
-settled_phase w Without e d = (λ k. clash (cc), λ k. clash (cc))
-settled_phase w Granted e d = (λ k. clash (cc), λ k. clash (cc))
-settled_phase w Out e d = (λ k. clash (cc), λ k. clash (cc))
-settled_phase w Closing e d = clash (cc)
+settled_phase w Forward e d = cc
+settled_phase w (Backing g) e d = cc
+settled_phase w Without e d = (λ k. cc, λ k. cc)
+settled_phase w Granted e d = (λ k. cc, λ k. cc)
+settled_phase w Out e d = (λ k. cc, λ k. cc)
+settled_phase w Closing e d = cc
 
 settled_at : (x : Rack) (o : Option Ticket) (e : Refusal) → due_for x o ≡ Err e → Settled (stage_found o)
-settled_at x None e d = (λ k. clash (cc), λ k. clash (cc))
+settled_at x None e d = (λ k. cc, λ k. cc)
 settled_at x (Some t) e d = settled_phase (worked x t) t.phase e d
 
 settled : (x : Rack) (n : ℕ) (e : Refusal) → due x n ≡ Err e → Settled (stage_at x n)
@@ -295,14 +292,14 @@ module _ {S : Type 0} (m : Meaning S) where
       → let o : Moved (ℕ × Stage) S =
       cond b (record { answer = Err refusal.Full; ran = none }) (record { answer = Ok (length all.reports, stage_at all.rack n); ran = all }) in
       o.answer ≡ Ok (count, last) → Drove o.ran all n count last
-  drove_at none all n count last true e = clash (cc)
+  drove_at none all n count last true e = cc
   drove_at none all n count last false e =
       let k = ok_pair (length all.reports) count (stage_at all.rack n) last e in
       record { is_all = refl; count_is = k.0; last_is = k.1 }
 
   drove_with : (x : Rack) (n budget room : ℕ) (s : S) (count : ℕ) (last : Stage) (o : Result Ticket Refusal) → (drive_with m x n budget room s o).answer ≡ Ok (count, last)
       → Drove (drive_with m x n budget room s o).ran (steps m (min budget room) x n s) n count last
-  drove_with x n budget room s count last (Err e) k = clash (cc)
+  drove_with x n budget room s count last (Err e) k = cc
   drove_with x n budget room s count last (Ok t) k = drove_at (still x s) (steps m (min budget room) x n s) n count last (eqb room 0) k
 
   counts_at : (ran all : Ran S) (n count budget room : ℕ) (last : Stage) → Drove ran all n count last → Ends (min budget room) n all

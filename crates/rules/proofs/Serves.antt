@@ -31,7 +31,7 @@ other_phase : (t u : Ticket) (p : Phase) → t.phase ≡ p → (u.phase ≡ p �
 other_phase t u p e d q = d (ap (λ (v : Ticket). v.phase) q ∙ e)
 
 forward_backing : (g : ℕ) → Backing g ≡ Forward → ⊥
-forward_backing g e = let z : ◌≡◌ {A = ℕ} 0 1 = cc in omega arith
+forward_backing g e = cc
 
 other_redirect : (n g : ℕ) (t : Ticket) (b : Bool) → eqb t.marks 0 ≡ b → t.phase ≡ Forward
     → (t.marks ≡ 0 → Other t (sets_out n g t)) → Other t (cond b (sets_out n g t) (with_phase (Backing g) t))
@@ -50,11 +50,11 @@ other_wiped_close t true h = tt
 other_wiped_close t false h = (fewer_marks t h, tt)
 
 other_wiped : (z : Sizes) (n : ℕ) (t : Ticket) (p : Phase) → t.phase ≡ p → retreats p ≡ true → Shape z p t → AllByRecursion (Other t) (wiped n p t)
-other_wiped z n t Forward q e s = let y : ◌≡◌ {A = ℕ} 0 1 = cc in absurd (omega arith)
+other_wiped z n t Forward q e s = cc
 other_wiped z n t (Backing g) q e s = (other_wiped_back n g t (leb t.marks 1) q s.0, tt)
-other_wiped z n t Without q e s = let y : ◌≡◌ {A = ℕ} 0 1 = cc in absurd (omega arith)
-other_wiped z n t Granted q e s = let y : ◌≡◌ {A = ℕ} 0 1 = cc in absurd (omega arith)
-other_wiped z n t Out q e s = let y : ◌≡◌ {A = ℕ} 0 1 = cc in absurd (omega arith)
+other_wiped z n t Without q e s = cc
+other_wiped z n t Granted q e s = cc
+other_wiped z n t Out q e s = cc
 other_wiped z n t Closing q e s = other_wiped_close t (leb t.marks 1) s.0
 
 -- no action leaves the ticket as it was
@@ -65,8 +65,8 @@ other_after z n vacant t action.Over f s =
   where
     now_seen : (sets_out n t.request.start t).seen ≡ n
     now_seen = rw (eq-eqb t.request.start t.request.start refl) refl
-other_after z n vacant t action.Without f s = (other_phase t (with_phase Without t) Forward s.0 (λ e. let y : ◌≡◌ {A = ℕ} 0 1 = cc in omega arith), tt)
-other_after z n vacant t action.Grant f s = (other_phase t (with_phase Granted t) Forward s.0 (λ e. let y : ◌≡◌ {A = ℕ} 0 1 = cc in omega arith), tt)
+other_after z n vacant t action.Without f s = (other_phase t (with_phase Without t) Forward s.0 (λ e. cc), tt)
+other_after z n vacant t action.Grant f s = (other_phase t (with_phase Granted t) Forward s.0 (λ e. cc), tt)
 other_after z n vacant t action.Mark f s = ((λ q. let k = ap (λ (v : Ticket). v.marks) q in omega arith), tt)
 other_after z n vacant t action.Wall f s =
     (other_redirect n (ahead t + 1) t (eqb t.marks 0) refl s.0 (λ m q. let k = ap (λ (v : Ticket). v.first) q in omega arith), tt)
@@ -84,11 +84,11 @@ some_row_at x sd w f action.Mark e s =
     let l = cells_tall x sd (ahead w) (omega arith) in
     let v = some_vacant (cells x (ahead w)) (omega arith) s.3 in
     (v.0, λ _. v.1)
-some_row_at x sd w f action.Wipe e s = (0, λ q. let y : ◌≡◌ {A = ℕ} 0 1 = cc in absurd (omega arith))
-some_row_at x sd w f action.Over e s = (0, λ q. let y : ◌≡◌ {A = ℕ} 0 1 = cc in absurd (omega arith))
-some_row_at x sd w f action.Without e s = (0, λ q. let y : ◌≡◌ {A = ℕ} 0 1 = cc in absurd (omega arith))
-some_row_at x sd w f action.Grant e s = (0, λ q. let y : ◌≡◌ {A = ℕ} 0 1 = cc in absurd (omega arith))
-some_row_at x sd w f action.Wall e s = (0, λ q. let y : ◌≡◌ {A = ℕ} 0 1 = cc in absurd (omega arith))
+some_row_at x sd w f action.Wipe e s = (0, λ q. cc)
+some_row_at x sd w f action.Over e s = (0, λ q. cc)
+some_row_at x sd w f action.Without e s = (0, λ q. cc)
+some_row_at x sd w f action.Grant e s = (0, λ q. cc)
+some_row_at x sd w f action.Wall e s = (0, λ q. cc)
 
 pub served : (x : Rack) → Sound x → (s : Ticket) → find (named s.number) x.tickets ≡ Some s → soft s.phase ≡ true → Served x s
 served x sd s f e =

@@ -140,7 +140,7 @@ first_at : (p : Ticket → Bool) (u : Ticket) (ts : List Ticket) (o t : Ticket) 
     → cond b (Some u) (find p ts) ≡ Some o → o.number ≤ t.number
 first_at p u ts o t true e ih (inl l) i q f = let k = ap (λ (x : Ticket). x.number) (some_inj u o f) in omega arith
 first_at p u ts o t true e ih (inr l) i q f = let k = ap (λ (x : Ticket). x.number) (some_inj u o f) in let j = ap (λ (x : Ticket). x.number) l in omega arith
-first_at p u ts o t false e ih l (inl a) q f = let z : false ≡ true = sym e ∙ (ap p a ∙ q) in absurd (let y : ◌≡◌ {A = ℕ} 0 1 = cc in omega arith)
+first_at p u ts o t false e ih l (inl a) q f = let z : false ≡ true = sym e ∙ (ap p a ∙ q) in cc
 first_at p u ts o t false e ih l (inr i) q f = ih f i
 
 low_or : (lo hi : ℕ) (u : Ticket) (ts : List Ticket) (t : Ticket) → Rising lo hi (u ∷ ts) → In t (u ∷ ts) → (suc u.number ≤ t.number) ⊎ (u ≡ t)

@@ -238,7 +238,7 @@ module _ (x : Rack) (sd : Sound x) where
   wall_at w true e n f a b v = e
   wall_at w false e n f a b v =
       let q : blocked x w ≡ true = rw (f, lt-ltb w.marks w.request.length b, le-ltb x.sizes.columns (w.first + w.request.length) a, v, e) refl in
-      let z : false ≡ true = sym n ∙ q in absurd (let y : ◌≡◌ {A = ℕ} 0 1 = cc in omega arith)
+      let z : false ≡ true = sym n ∙ q in cc
 
   -- a forward ticket that is not blocked, and finds no vacant slot in the column ahead, is at a wall
   pub meets_wall : (w : Ticket) → Works x w → w.phase ≡ Forward → w.first + w.request.length ≤ x.sizes.columns → w.marks < w.request.length

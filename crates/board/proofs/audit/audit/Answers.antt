@@ -1,4 +1,4 @@
-use Rattle.std.proofs.Common.{◌≡◌, ℕ, ◌+◌, Ok, Err, Result, sym, refl, ap, ◌∙◌, arith}
+use Rattle.std.proofs.Common.{◌≡◌, ◌+◌, Ok, Err, Result, sym, refl, ap, ◌∙◌, arith}
 use Rattle.std.proofs.lemmas.Result.{err_from_is_err_and}
 use Rattle.rules.specs.declared.refusal.Refusal.{Refusal}
 use Rattle.rules.specs.Calls.{open'}
@@ -25,7 +25,7 @@ returns-in_err-open g c =
     }
   where
     ok_err : (a : Accounts) (e : Refusal) → ◌≡◌ {A = Result Accounts Refusal} (Ok a) (Err e) → ⊥
-    ok_err a e q = let w : ◌≡◌ {A = ℕ} 0 1 = cc in omega arith
+    ok_err a e q = cc
 
 pub loop-turn-init : goal.loop-turn-init
 loop-turn-init g c =
