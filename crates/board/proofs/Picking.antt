@@ -20,21 +20,17 @@ module _ {S : Type 0} (m : Meaning S) (lawful : Lawful m) (r : Rack) (sd : Sound
   told_is : ◌≡◌ {A = Asked} (record { mask = mask; column = ahead t; left = left }) (asked r t)
   told_is = rw (k, l) refl
 
-  pub picked_row : (row : ℕ) → Some row ≡ answer_of m s (record { mask = mask; column = ahead t; left = left }) → row ≡ row_for m r t s
+  picked_row : (row : ℕ) → Some row ≡ answer_of m s (record { mask = mask; column = ahead t; left = left }) → row ≡ row_for m r t s
   picked_row row e =
       let a : answer_of m s (record { mask = mask; column = ahead t; left = left }) ≡ Some (m.row s (record { mask = mask; column = ahead t; left = left })) = rw (ne_eqb mask 0 v) refl in
       some_inj row (row_for m r t s) (e ∙ (a ∙ ap (λ (q : Asked). Some (m.row s q)) told_is))
 
-  pub picked_held : (h : S) → h ≡ held_by m s (record { mask = mask; column = ahead t; left = left }) → h ≡ m.then s (asked r t)
-  picked_held h e =
-      let a : held_by m s (record { mask = mask; column = ahead t; left = left }) ≡ m.then s (record { mask = mask; column = ahead t; left = left }) = rw (ne_eqb mask 0 v) refl in
-      e ∙ (a ∙ ap (λ (q : Asked). m.then s q) told_is)
-
   vacant_there : has_vacant r (ahead t) ≡ true
   vacant_there = not-false (has_vacant r (ahead t)) (sym (mask_zero (cells r (ahead t))) ∙ ne_eqb (mask_of (cells r (ahead t))) 0 (λ e. v (k ∙ e)))
 
-  pub picked_within : (row : ℕ) → row ≡ row_for m r t s → (1 ≤ row) × (row ≤ r.sizes.rows)
-  picked_within row e =
+  pub picked_within : (row : ℕ) → Some row ≡ answer_of m s (record { mask = mask; column = ahead t; left = left }) → (1 ≤ row) × (row ≤ r.sizes.rows)
+  picked_within row k =
+      let e = picked_row row k in
       let tall = cells_tall r sd (ahead t) inside in
       let most = sd.rows_most in
       let w = some_vacant (cells r (ahead t)) (omega arith) vacant_there in

@@ -207,10 +207,7 @@ impl Board {
             column: t.first + t.marks,
             left: self.tables.left_row(t),
         };
-        match chooser.choose(asked) {
-            Some(row) => row,
-            None => unreachable(),
-        }
+        chooser.choose(asked).unwrap()
     }
 
     /// The row that an action writes: for a mark the chooser's, for a wipe the mark's own, else 0.

@@ -1,8 +1,8 @@
 //! Calls of the board as entries of a table, each with the answer expected.
-use crate::tests::ledger::Rack;
 use board::board::Board;
 use board::lowest::Lowest;
 use lists::journal::Journal;
+use rules::rack::Sizes;
 use rules::refusal::Refusal;
 use rules::report::{Action, Report};
 use rules::span::Span;
@@ -44,14 +44,6 @@ pub(super) enum Said {
 /// An answer, or why there is none.
 pub(super) type Heard = Result<Said, Refusal>;
 
-/// What a journal place holds before a report is entered.
-pub(super) const NO_REPORT: Report = Report {
-    number: 0,
-    action: Action::Wall,
-    column: 0,
-    row: 0,
-};
-
 fn told(report: Report) -> Said {
     Said::Told(report.number, report.action, report.column, report.row)
 }
@@ -62,7 +54,7 @@ fn window(found: Option<Span>) -> Said {
 
 // A drive with a journal of so many places, 64 at most.
 fn drive(board: &mut Board, number: u32, budget: u32, room: usize) -> Heard {
-    let mut places = [NO_REPORT; 64];
+    let mut places = [Report::default(); 64];
     let mut journal = Journal::new(&mut places[..room.min(64)]);
     board
         .drive(number, budget, &mut journal, &mut Lowest)
@@ -81,15 +73,15 @@ fn seen(board: &Board, number: u32) -> Heard {
 /// The answer to a call. Marks go to the lowest vacant row.
 pub(super) fn hear(board: &mut Board, ask: Ask) -> Heard {
     match ask {
-        Ask::Open(rows, columns, places, lead, first) => Rack {
-            rows,
-            columns,
-            places,
-            lead,
-            first,
+        Ask::Open(rows, columns, places, lead, first) => {
+            let sizes = Sizes {
+                rows,
+                columns,
+                places,
+                lead,
+            };
+            board.open(sizes, first).map(|()| Said::Done)
         }
-        .open(board)
-        .map(|()| Said::Done),
         Ask::Book(start, length) => board.book(Request { start, length }).map(Said::Figure),
         Ask::Step(number) => board.step(number, &mut Lowest).map(told),
         Ask::Drive(number, budget, room) => drive(board, number, budget, room),

@@ -1,11 +1,11 @@
 //! The accounts of an audit, held against a count of what the same calls answer one by one.
-use crate::tests::asks::NO_REPORT;
 use crate::tests::chance::Chance;
 use crate::tests::ledger::Rack;
 use board::audit::{Accounts, Call, Turn, audit};
 use board::board::Board;
 use board::lowest::Lowest;
 use lists::journal::Journal;
+use rules::rack::Sizes;
 use rules::refusal::Refusal;
 use rules::report::{Action, Report};
 use rules::ticket::Request;
@@ -118,16 +118,7 @@ impl Rack {
         turns: &mut [Turn<Lowest>],
         journal: &mut Journal<Report>,
     ) -> Result<Accounts, Refusal> {
-        audit(
-            board,
-            self.rows,
-            self.columns,
-            self.places,
-            self.lead,
-            self.first,
-            turns,
-            journal,
-        )
+        audit(board, self.sizes, self.first, turns, journal)
     }
 }
 
@@ -135,7 +126,7 @@ impl Rack {
 fn agrees(rt: &impl Abort, heap: Global, rack: Rack, seed: u32) -> Result<Accounts, Fail> {
     let mut turns = draw_turns(heap, seed)?;
     let mut board = Board::new(heap)?;
-    let mut places = [NO_REPORT; 900];
+    let mut places = [Report::default(); 900];
     let mut journal = Journal::new(&mut places);
     let mut count = Count::default();
     rack.open(&mut board)?;
@@ -150,15 +141,17 @@ fn agrees(rt: &impl Abort, heap: Global, rack: Rack, seed: u32) -> Result<Accoun
 // A refused opening is the answer, and no turn is made.
 fn refused(rt: &impl Abort, heap: Global) -> Result<(), Fail> {
     let rack = Rack {
-        rows: 1,
-        columns: 7,
-        places: 65,
-        lead: 0,
+        sizes: Sizes {
+            rows: 1,
+            columns: 7,
+            places: 65,
+            lead: 0,
+        },
         first: 1,
     };
     let mut turns = draw_turns(heap, 5)?;
     let mut board = Board::new(heap)?;
-    let mut places = [NO_REPORT; 4];
+    let mut places = [Report::default(); 4];
     let mut journal = Journal::new(&mut places);
     let answer = rack.audit(&mut board, &mut turns, &mut journal);
     assert_eq!(rt; answer, Err(Refusal::Limits));
@@ -174,10 +167,12 @@ fn audits(rt: HostRuntime) -> Result<(), Fail> {
     let mut without = 0u32;
     for seed in 0..200u32 {
         let rack = Rack {
-            rows: seed % 2 + 1,
-            columns: 7,
-            places: 16,
-            lead: seed % 5,
+            sizes: Sizes {
+                rows: seed % 2 + 1,
+                columns: 7,
+                places: 16,
+                lead: seed % 5,
+            },
             first: 1,
         };
         let accounts = agrees(&rt, rt.alloc(), rack, seed * 31)?;

@@ -3,11 +3,12 @@ use board::chooser::Chooser;
 use board::evening::Evening;
 use board::lowest::Lowest;
 use board::staying::Staying;
+use rules::asked::Asked;
 use std::process::Abort;
 
 // The row that a chooser picks of a column, told the vacant rows and the row to the left.
 fn pick<C: Chooser>(chooser: &mut C, mask: u16, column: u32, left: Option<u32>) -> Option<u32> {
-    chooser.choose(mask, column, left)
+    chooser.choose(Asked { mask, column, left })
 }
 
 // A chooser is asked twice, at both ends of the board: neither its past nor the column counts.

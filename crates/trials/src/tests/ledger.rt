@@ -1,5 +1,6 @@
 //! A slow ledger: what answers and reports tell, and nothing else, in plain lists.
 use board::board::Board;
+use rules::rack::Sizes;
 use rules::refusal::Refusal;
 use rules::report::{Action, Report};
 use rules::span::Span;
@@ -10,26 +11,23 @@ use std::ops::Range;
 /// The sizes of a rack, and its first number.
 #[derive(Clone, Copy, Debug)]
 pub(super) struct Rack {
-    pub rows: u32,
-    pub columns: u32,
-    pub places: u32,
-    pub lead: u32,
+    pub sizes: Sizes,
     pub first: u32,
 }
 
 impl Rack {
     pub(super) fn open(&self, board: &mut Board) -> Result<(), Refusal> {
-        board.open(self.rows, self.columns, self.places, self.lead, self.first)
+        board.open(self.sizes, self.first)
     }
 
     /// How many slots there are.
     pub(super) fn slots(&self) -> usize {
-        self.rows.wrapping_mul(self.columns) as usize
+        self.sizes.rows.wrapping_mul(self.sizes.columns) as usize
     }
 
     /// The place of a slot in a list of all slots.
     pub(super) fn place(&self, column: u32, row: u32) -> usize {
-        let before = column.wrapping_mul(self.rows);
+        let before = column.wrapping_mul(self.sizes.rows);
         before.wrapping_add(row).wrapping_sub(1) as usize
     }
 }
@@ -110,19 +108,19 @@ impl Ledger {
 
     /// The column is full.
     pub(super) fn is_full(&self, column: u32) -> bool {
-        self.load(column) >= self.rack.rows as usize
+        self.load(column) >= self.rack.sizes.rows as usize
     }
 
     // The window lies on the rack, and none of its columns is full.
     fn fits(&self, window: Span) -> bool {
         let mut columns = columns_of(window);
-        columns.end <= self.rack.columns && columns.all(|column| !self.is_full(column))
+        columns.end <= self.rack.sizes.columns && columns.all(|column| !self.is_full(column))
     }
 
     /// The ledger's answer to a booking: the least first column with room for it, if there is one.
     pub(super) fn least(&self, asked: Request) -> Option<u32> {
         let length = asked.length;
-        (asked.start..self.rack.columns).find(|first| {
+        (asked.start..self.rack.sizes.columns).find(|first| {
             self.fits(Span {
                 first: *first,
                 length,
@@ -145,21 +143,21 @@ impl Ledger {
 
     /// How many slots of the column hold a mark by the reports.
     pub(super) fn marks_in(&self, column: u32) -> usize {
-        (1..=self.rack.rows)
+        (1..=self.rack.sizes.rows)
             .filter(|row| self.owner(column, *row).is_some())
             .count()
     }
 
     /// How many slots of the column hold the number's mark.
     pub(super) fn marks_of(&self, number: u32, column: u32) -> usize {
-        (1..=self.rack.rows)
+        (1..=self.rack.sizes.rows)
             .filter(|row| self.owner(column, *row) == Some(number))
             .count()
     }
 
     /// The lowest row of the column that is this owner's; nobody's is the lowest one with no mark.
     pub(super) fn row_of(&self, owner: Option<u32>, column: u32) -> Option<u32> {
-        (1..=self.rack.rows).find(|row| self.owner(column, *row) == owner)
+        (1..=self.rack.sizes.rows).find(|row| self.owner(column, *row) == owner)
     }
 
     /// How many bookings were taken.

@@ -1,5 +1,4 @@
 //! Lines of the console with the answers expected.
-use crate::tests::asks::NO_REPORT;
 use crate::tests::prefixed::Prefixed;
 use board::board::Board;
 use board::lowest::Lowest;
@@ -41,7 +40,7 @@ impl Desk<'_> {
 // Hands the lines one after the other to a session that begins with a board never opened, with room
 // for 16 reports; each answer is as the table says.
 fn converse(rt: &impl Abort, heap: Global, lines: &[(&str, &str)]) -> Result<(), Fail> {
-    let mut reports = [NO_REPORT; 16];
+    let mut reports = [Report::default(); 16];
     let mut faults = [LineFault::blank(); 4];
     let mut desk = Desk {
         session: Session::new(Board::new(heap)?, Lowest),
@@ -196,7 +195,7 @@ fn too_short(rt: &impl Abort, desk: &mut Desk, line: Option<&[u8]>, room: usize)
 
 // 63 bytes are too few, whatever the line is; then nothing is counted.
 fn short_pages(rt: &impl Abort, session: Session<Lowest>) {
-    let mut reports = [NO_REPORT; 1];
+    let mut reports = [Report::default(); 1];
     let mut faults = [LineFault::blank(); 2];
     let mut page = [b'#'; 64];
     let mut desk = Desk {
@@ -252,7 +251,7 @@ fn full_journal(rt: &impl Abort, mut board: Board) {
         ("drive\t2\t0\n", Err(Refusal::Unknown)),
         ("step\t1\n", Ok("ok\t1\t5\t2\t1\n")),
     ];
-    let mut places = [NO_REPORT; 2];
+    let mut places = [Report::default(); 2];
     let mut journal = Journal::new(&mut places);
     for (line, must) in lines {
         answered(rt, &mut board, &mut journal, line, must);

@@ -5,6 +5,7 @@ use crate::tests::runs::{Draws, Trial};
 use board::evening::Evening;
 use board::lowest::Lowest;
 use board::staying::Staying;
+use rules::rack::Sizes;
 use rules::report::Action;
 use std::alloc::Global;
 use std::process::Abort;
@@ -95,10 +96,12 @@ fn small(code: u32) -> Draws {
     let columns = code / 3 % 9 + 1;
     Draws {
         rack: Rack {
-            rows: code % 3 + 1,
-            columns,
-            places: code / 27 % 5 + 1,
-            lead: code / 135 % 5,
+            sizes: Sizes {
+                rows: code % 3 + 1,
+                columns,
+                places: code / 27 % 5 + 1,
+                lead: code / 135 % 5,
+            },
             first: code.wrapping_add(1),
         },
         base: 0,
@@ -122,10 +125,12 @@ fn small_racks(rt: HostRuntime) -> Result<(), Fail> {
 fn full(lead: u32, first: u32, base: u32, longest: u32, newest: bool) -> Draws {
     Draws {
         rack: Rack {
-            rows: 16,
-            columns: 256,
-            places: 64,
-            lead,
+            sizes: Sizes {
+                rows: 16,
+                columns: 256,
+                places: 64,
+                lead,
+            },
             first,
         },
         base,

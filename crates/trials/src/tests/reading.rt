@@ -36,7 +36,7 @@ impl Foreseen for Staying {
 
 impl Foreseen for Evening {
     fn foreseen(&self, ledger: &Ledger, mark: Report) -> Option<u32> {
-        (1..=ledger.rack.rows)
+        (1..=ledger.rack.sizes.rows)
             .filter(|row| ledger.owner(mark.column, *row).is_none())
             .min_by_key(|row| ledger.tallies.get(*row as usize).copied())
     }
@@ -57,7 +57,7 @@ impl Ledger {
         report: Report,
         booking: Booking,
     ) {
-        assert!(rt; report.column < self.rack.columns);
+        assert!(rt; report.column < self.rack.sizes.columns);
         assert_eq!(rt; chooser.foreseen(self, report), Some(report.row));
         assert_eq!(rt; self.owner(report.column, report.row), None);
         assert_eq!(rt; self.marks_of(report.number, report.column), 0);

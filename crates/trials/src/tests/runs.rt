@@ -58,8 +58,8 @@ impl Trial {
     // The steps within which every booking must be decided or withdrawn.
     fn patience(&self) -> usize {
         let rack = self.draws.rack;
-        let wide = rack.places.wrapping_add(rack.lead);
-        let long = rack.columns.wrapping_mul(2).wrapping_add(1);
+        let wide = rack.sizes.places.wrapping_add(rack.sizes.lead);
+        let long = rack.sizes.columns.wrapping_mul(2).wrapping_add(1);
         wide.wrapping_mul(wide).wrapping_mul(long) as usize
     }
 
@@ -111,10 +111,10 @@ impl Trial {
     // What a booking must be answered.
     fn must_book(&self, request: Request) -> Result<u32, Refusal> {
         let end = request.start.wrapping_add(request.length);
-        if !(1..=64).contains(&request.length) || end > self.draws.rack.columns {
+        if !(1..=64).contains(&request.length) || end > self.draws.rack.sizes.columns {
             return Err(Refusal::Columns);
         }
-        if self.ledger.in_use() >= self.draws.rack.places as usize {
+        if self.ledger.in_use() >= self.draws.rack.sizes.places as usize {
             return Err(Refusal::Places);
         }
         Ok(self.next())

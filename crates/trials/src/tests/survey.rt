@@ -15,7 +15,7 @@ impl Trial {
         let tickets = self.board.tickets();
         assert!(rt; tickets.is_sorted_by(|one, next| one.number < next.number));
         assert_eq!(rt; tickets.len(), self.ledger.in_use());
-        assert!(rt; tickets.len() <= self.draws.rack.places as usize);
+        assert!(rt; tickets.len() <= self.draws.rack.sizes.places as usize);
         for ticket in tickets {
             let booking = self
                 .ledger
@@ -55,7 +55,7 @@ impl Trial {
 
     // Each column shows as many marks as the reports leave in it.
     fn marks_agree(&self, rt: &impl Abort) {
-        for column in 0..self.draws.rack.columns {
+        for column in 0..self.draws.rack.sizes.columns {
             let shown = self.board.show(column).map(|marks| marks as usize);
             assert_eq!(rt; shown, Ok(self.ledger.marks_in(column)));
         }
