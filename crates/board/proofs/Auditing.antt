@@ -1,17 +1,15 @@
 -- An audit, turn by turn.
-use Rattle.std.proofs.Common.{◌≡◌, ℕ, ◌+◌, ◌<◌, ◌≤◌, Bool, true, false, List, [], ◌∷◌, ◌++◌, map, length, get_or, take, drop, set, is_ok, Ok, Err, Result, sym, refl, ap, ◌∙◌, subst, arith}
+use Rattle.std.proofs.Common.{◌≡◌, ℕ, ◌+◌, ◌<◌, ◌≤◌, Bool, true, false, List, [], ◌∷◌, ◌++◌, map, length, get_or, take, drop, set, Ok, Err, Result, sym, refl, ap, ◌∙◌, subst, arith}
 use mathlib.Core.List.{reverse_aux}
-use Rattle.std.proofs.lemmas.List.{at_drop_more, at_drop_all, drop_more, drop-set-lt, take_more_set, drop_all, take_all, append_assoc, append-nil}
-use mir.Val.{bool_byte}
+use Rattle.std.proofs.lemmas.List.{drop_more, drop-set-lt, take_more_set, drop_all, take_all, append_assoc, append-nil}
 use Rattle.lists.specs.Contents.{Contents, room_of}
 use Rattle.rules.specs.declared.report.Report.{Report}
 use Rattle.rules.specs.declared.refusal.Refusal.{Refusal}
-use Rattle.rules.specs.declared.ticket.Ticket.{Ticket}
 use Rattle.rules.proofs.Listing.{total_append}
 use Rattle.rules.proofs.Carried.{book_carries, step_carries, drive_carries, collect_carries, drop_carries, back_carries}
 use Rattle.rules.specs.Lists.{unit, count_of}
 use Rattle.rules.specs.declared.rack.Sizes.{Sizes}
-use Rattle.rules.specs.Rack.{Rack, opened, seeking, hard}
+use Rattle.rules.specs.Rack.{Rack, seeking, hard}
 use Rattle.rules.specs.Calls.{openable, open'}
 use Rattle.rules.specs.Accounts.{is_withdrawn, numbers}
 use Rattle.rules.proofs.Kept.{sound}
@@ -21,19 +19,13 @@ use Rattle.rules.proofs.Cells.{count_most}
 use Rattle.rules.specs.declared.refusal.Refusal.TheVariants as refusal
 use Rattle.rules.specs.Choosers.{Meaning, Lawful}
 use Rattle.rules.specs.History.{Event, Reaches}
-use Rattle.rules.specs.Laws.{told, reported, Carries}
+use Rattle.rules.specs.Laws.{reported, Carries}
 use Rattle.board.specs.declared.audit.Accounts.{Accounts}
 use Rattle.board.specs.declared.audit.Turn.{Turn}
 use Rattle.board.specs.declared.audit.Call.{Call}
 use Rattle.board.specs.declared.audit.Call.TheVariants as call
-use Rattle.board.specs.Reading.{no_ticket}
 use Rattle.board.specs.Audit.{Scene, is_drop, accounts_of, counted_on, called, turned, used, after, played, all_used, opening, history_of, audited, Accounted}
 use Rattle.board.proofs.Tallying.{tallies}
-
--- only a withdrawal tells one
-pub none_told : {A : Type 0} (f : A → Event) → ((a : A) → is_drop (f a) ≡ false) → (r : Result A Refusal) → 0 ≡ count_of is_drop (told f r)
-none_told f k (Ok a) = rw k refl
-none_told f k (Err e) = refl
 
 reported_onto : (rs : List Report) (es : List Event) → count_of is_drop (reverse_aux (map Event.stepped rs) es) ≡ count_of is_drop es
 reported_onto [] es = refl
@@ -41,44 +33,6 @@ reported_onto (r ∷ rs) es = omega (arith, reported_onto rs (Event.stepped r �
 
 pub none_reported : (rs : List Report) → 0 ≡ count_of is_drop (reported rs)
 none_reported rs = sym (reported_onto rs [])
-
--- a turn, by the call that it makes
-pub by_call : {S : Type 0} (m : Meaning S) (x y : Rack) (c d : Contents Report) (t u : Turn S) (k : Call) (n : ℕ) → t.call ≡ k
-    → n ≡ count_of is_drop (called m x c t.chooser k).events → y ≡ (called m x c t.chooser k).rack
-    → u ≡ record { call = t.call; chooser = (called m x c t.chooser k).held } → d ≡ (called m x c t.chooser k).journal
-    → (n ≡ count_of is_drop (turned m x c t).events) × (y ≡ (turned m x c t).rack) × (u ≡ used m x c t) × (d ≡ (turned m x c t).journal)
-by_call m x y c d t u k n is a b e f =
-    let o : turned m x c t ≡ called m x c t.chooser k = ap (called m x c t.chooser) is in (
-      a ∙ sym (ap (λ v. count_of is_drop v.events) o),
-      b ∙ sym (ap (λ v. v.rack) o),
-      e ∙ sym (ap (λ v. record { call = t.call; chooser = v.held }) o),
-      f ∙ sym (ap (λ v. v.journal) o),
-    )
-
-pub one_told : (n : ℕ) (r : Result (Unit {0}) Refusal) → bool_byte (is_ok r) ≡ count_of is_drop (told (λ _. Event.dropped n) r)
-one_told n (Ok a) = refl
-one_told n (Err e) = refl
-
--- tickets counted one by one
-byte_unit : (b : Bool) → bool_byte b ≡ unit b
-byte_unit true = refl
-byte_unit false = refl
-
-unit_most : (b : Bool) → unit b ≤ 1
-unit_most true = omega arith
-unit_most false = omega arith
-
-pub ticket_more : (p : Ticket → Bool) (ts : List Ticket) (i k n : ℕ) (b : Bool) → i < length ts → b ≡ p (get_or ts i no_ticket) → n ≡ bool_byte b
-    → (k + count_of p (drop i ts) ≡ count_of p ts) × (k ≤ i) → (k + n + count_of p (drop (i + 1) ts) ≡ count_of p ts) × (k + n ≤ i + 1)
-ticket_more p ts i k n b l e f q =
-    let d = at_drop_more (count_of p) ts i no_ticket l in
-    let u = unit_most b in
-    let v : n ≡ unit b = f ∙ byte_unit b in
-    let w : unit b ≡ unit (p (get_or ts i no_ticket)) = ap unit e in
-    (omega (arith, q.0), omega (arith, q.1))
-
-pub ticket_all : (p : Ticket → Bool) (ts : List Ticket) (i k : ℕ) → length ts ≤ i → k + count_of p (drop i ts) ≡ count_of p ts → k ≡ count_of p ts
-ticket_all p ts i k l e = let d = at_drop_all (count_of p) ts i l in omega arith
 
 module _ {S : Type 0} (m : Meaning S) where
   -- the promise of a turn is that of its call
@@ -187,14 +141,8 @@ open_by x z first false p =
 pub opened_with : (x : Rack) (z : Sizes) (first : ℕ) → Ok tt ≡ (open' x z first).answer → openable z first ≡ true
 opened_with x z first q = (open_by x z first (openable z first) refl).0 q
 
-pub not_opened : (x : Rack) (z : Sizes) (first : ℕ) (e : Refusal) → Err e ≡ (open' x z first).answer → (openable z first ≡ false) × (e ≡ refusal.Limits)
-not_opened x z first e q = (open_by x z first (openable z first) refl).1 e q
-
 -- an audit from its opening to its end
 module _ {S : Type 0} (m : Meaning S) (x : Rack) (z : Sizes) (first : ℕ) (c : Contents Report) (ts : List (Turn S)) where
-  pub audit_none : openable z first ≡ false → audited m x z first c ts ≡ record { answer = Err refusal.Limits; rack = x; turns = ts; journal = c }
-  audit_none p = rw p refl
-
   audit_some : openable z first ≡ true
       → audited m x z first c ts ≡ record {
         answer = Ok (accounts_of (history_of m z first c ts));
@@ -203,18 +151,6 @@ module _ {S : Type 0} (m : Meaning S) (x : Rack) (z : Sizes) (first : ℕ) (c : 
         journal = (played m (opening m z first c) ts).journal;
       }
   audit_some p = rw p refl
-
-  pub leaves_none : (y : Rack) → Ok tt ≡ (open' x z first).answer → y ≡ (open' x z first).rack → Reaches [] y
-      → Leaves m y c 0 [] ts (played m (opening m z first c) ts) (all_used m (opening m z first c) ts)
-  leaves_none y a e r =
-      let o : (open' x z first).rack ≡ opened z first = let p = opened_with x z first a in rw p refl in
-      let q : y ≡ opened z first = e ∙ o in (
-        [],
-        r,
-        refl,
-        ap (λ (v : Rack). played m (record { history = []; rack = v; journal = c }) ts) q,
-        ap (λ (v : Rack). all_used m (record { history = []; rack = v; journal = c }) ts) q,
-      )
 
   pub audit_ends : (y : Rack) (d : Contents Report) (n : ℕ) (us : List (Turn S)) (i : ℕ) (a : Accounts) → Ok tt ≡ (open' x z first).answer → a ≡ counted_on y n → length us ≤ i
       → Leaves m y d n (take i us) (drop i us) (played m (opening m z first c) ts) (all_used m (opening m z first c) ts)

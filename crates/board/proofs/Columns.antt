@@ -1,11 +1,10 @@
 -- Loops over the cells of a column: the mask, and the row of a mark.
-use Rattle.std.proofs.Common.{◌≡◌, ℕ, zero, suc, ◌+◌, ◌*◌, ◌^◌, ◌%◌, ◌<◌, ◌≤◌, Bool, true, false, cond, eqb, List, [], ◌∷◌, length, get_or, take, drop, refl, ap, ◌∙◌, subst, pow-suc, arith, pow_mono}
+use Rattle.std.proofs.Common.{◌≡◌, ℕ, zero, suc, ◌+◌, ◌*◌, ◌^◌, ◌%◌, ◌<◌, ◌≤◌, Bool, true, false, cond, eqb, List, [], ◌∷◌, length, get_or, take, ap, ◌∙◌, subst, pow-suc, arith, pow_mono}
 use Rattle.std.proofs.Math.Nat.{mod-eq_of_lt}
-use Rattle.std.proofs.lemmas.List.{at_drop_more, at_drop_all, length-take-le}
-use Rattle.std.proofs.lemmas.Bool.Decides.{nat_tests}
+use Rattle.std.proofs.lemmas.List.{length-take-le}
 use Rattle.rules.specs.declared.slot.Slot.{Slot}
 use Rattle.rules.specs.Lists.{unit}
-use Rattle.rules.specs.Rack.{is_vacant, holds, row_of}
+use Rattle.rules.specs.Rack.{is_vacant}
 use Rattle.rules.specs.Choosers.{mask_of}
 
 pub unit_most : (b : Bool) → unit b ≤ 1
@@ -50,24 +49,3 @@ module _ (ss : List Slot) (i m : ℕ) (l : i < length ss) (short : length ss ≤
 -- the row found among the cells from i on, counted from the top
 abbrev pub shifted : ℕ → ℕ → ℕ
 shifted i r = cond (eqb r 0) 0 (i + r)
-
-shifted_more : (i r : ℕ) → shifted i (cond (eqb r 0) 0 (suc r)) ≡ shifted (i + 1) r
-shifted_more i r = grind (arith, nat_tests)
-
-row_cons : (n : ℕ) (s : Slot) (ss : List Slot) (b : Bool) → b ≡ holds n s → row_of n (s ∷ ss) ≡ cond b 1 (cond (eqb (row_of n ss) 0) 0 (suc (row_of n ss)))
-row_cons n s ss b e = rw e refl
-
-pub row_hit : (n : ℕ) (ss : List Slot) (i : ℕ) (d : Slot) → i < length ss → true ≡ holds n (get_or ss i d) → shifted i (row_of n (drop i ss)) ≡ i + 1
-row_hit n ss i d h e = at_drop_more (λ l. shifted i (row_of n l)) ss i d h ∙ ap (shifted i) (row_cons n (get_or ss i d) (drop (i + 1) ss) true e)
-
-pub row_miss : (n : ℕ) (ss : List Slot) (i : ℕ) (d : Slot) → i < length ss → false ≡ holds n (get_or ss i d)
-    → shifted i (row_of n (drop i ss)) ≡ shifted (i + 1) (row_of n (drop (i + 1) ss))
-row_miss n ss i d h e =
-    at_drop_more (λ l. shifted i (row_of n l)) ss i d h
-    ∙ (ap (shifted i) (row_cons n (get_or ss i d) (drop (i + 1) ss) false e) ∙ shifted_more i (row_of n (drop (i + 1) ss)))
-
-pub row_end : (n : ℕ) (ss : List Slot) (i : ℕ) → length ss ≤ i → shifted i (row_of n (drop i ss)) ≡ 0
-row_end n ss i h = at_drop_all (λ l. shifted i (row_of n l)) ss i h
-
-pub row_start : (n : ℕ) → shifted 0 n ≡ n
-row_start n = grind (arith, nat_tests)

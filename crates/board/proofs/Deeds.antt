@@ -11,8 +11,8 @@ use Rattle.rules.specs.Lists.{edit}
 use Rattle.rules.specs.declared.rack.Sizes.{Sizes}
 use Rattle.rules.specs.Rack.{Rack, soft, named, cells, has_vacant, row_of, with}
 use Rattle.rules.specs.Step.{ahead, retreats, action_of, row_told, column_of, slots_after, after, report_of, acted}
-use Rattle.rules.specs.Choosers.{Meaning, mask_of, asked}
-use Rattle.rules.specs.Calls.{row_for, held_after}
+use Rattle.rules.specs.Choosers.{Meaning, mask_of}
+use Rattle.rules.specs.Calls.{row_for}
 use Rattle.rules.specs.Sound.{Shape, Fit, Sound}
 use Rattle.rules.proofs.Listing.{In, all_in}
 use Rattle.rules.proofs.Duties.{Says, says}
@@ -81,20 +81,8 @@ module _ (r : Rack) (sd : Sound r) (i : ℕ) (t : Ticket) (h : i < length r.tick
 
 -- what the row of a mark and of a wipe says of the whole action
 module _ {S : Type 0} (m : Meaning S) (r : Rack) (t : Ticket) (s : S) (a : Action) (k : a ≡ action_of r t) (row : ℕ) where
-  pub mark_told : a ≡ action.Mark → row ≡ row_for m r t s → row ≡ row_told r t (row_for m r t s) a
-  mark_told q e = subst (λ (b : Action). row ≡ row_told r t (row_for m r t s) b) (sym q) e
-
-  pub mark_held : a ≡ action.Mark → (h : S) → h ≡ m.then s (asked r t) → h ≡ held_after m r t s
-  mark_held q h e = e ∙ sym (rw (sym k ∙ q) refl)
-
   pub mark_writes : a ≡ action.Mark → ahead t < r.sizes.columns → (1 ≤ row) × (row ≤ r.sizes.rows) → Writes r a (column_of a t) row
   mark_writes q h w = subst (λ (b : Action). Writes r b (column_of b t) row) (sym q) (h, w.0, w.1)
-
-  pub wipe_told : a ≡ action.Wipe → row ≡ row_of t.number (cells r (ahead t - 1)) → row ≡ row_told r t (row_for m r t s) a
-  wipe_told q e = subst (λ (b : Action). row ≡ row_told r t (row_for m r t s) b) (sym q) e
-
-  pub wipe_held : a ≡ action.Wipe → s ≡ held_after m r t s
-  wipe_held q = sym (rw (sym k ∙ q) refl)
 
   pub wipe_writes : a ≡ action.Wipe → row ≡ row_of t.number (cells r (ahead t - 1))
       → (t.first + t.marks - 1 < r.sizes.columns) × (1 ≤ row_of t.number (cells r (ahead t - 1))) × (row_of t.number (cells r (ahead t - 1)) ≤ r.sizes.rows)

@@ -1,6 +1,6 @@
 -- What one look finds: the mask ahead, and whether the ticket is blocked and by whom.
 use Rattle.std.proofs.Common.{◌≡◌, ℕ, ◌+◌, ◌<◌, ◌≤◌, Bool, true, false, not, ◌&&◌, ltb, Some, None, Option, sym, refl, ap, ◌∙◌, arith}
-use Rattle.std.proofs.lemmas.Bool.{and_parts, ltb-true, ltb-false, not-true, not-false, eq-eqb, ne_eqb, le-leb, lt-leb, cond-true}
+use Rattle.std.proofs.lemmas.Bool.{and_parts, ltb-true, ltb-false, not-true, not-false, eq-eqb, ne_eqb, le-leb, lt-leb}
 use Rattle.rules.specs.declared.ticket.Ticket.{Ticket}
 use Rattle.rules.specs.Lists.{or_else}
 use Rattle.rules.specs.Rack.{Rack, soft, cells, has_vacant, is_wall}
@@ -11,7 +11,7 @@ use Rattle.rules.proofs.Listing.{some_none}
 use Rattle.rules.proofs.Masks.{mask_zero}
 use Rattle.rules.proofs.Looks.{sees_wall, sees_holder}
 use Rattle.rules.proofs.Walks.{blocked_holder}
-use Rattle.board.specs.Reading.{Placed, looks, mask_seen, Passes}
+use Rattle.board.specs.Reading.{Placed, looks, Passes}
 
 -- the window ahead lies within the board
 pub looks_inside : (r : Rack) (t : Ticket) → looks r t ≡ true → ahead t < r.sizes.columns
@@ -21,9 +21,6 @@ looks_inside r t e =
     let m = ltb-true t.marks t.request.length b.0 in
     let p = ltb-false r.sizes.columns (t.first + t.request.length) (not-true (past r.sizes t) b.1) in
     omega arith
-
-pub mask_seen_lem : (r : Rack) (t : Ticket) (m : ℕ) → looks r t ≡ true → m ≡ mask_of (cells r (ahead t)) → m ≡ mask_seen r t
-mask_seen_lem r t m e k = k ∙ sym (cond-true (looks r t) (mask_of (cells r (ahead t))) 0 e)
 
 -- a ticket is blocked if the step looks ahead of it, and there is neither a vacant slot nor a wall
 blocked_split : (r : Rack) (t : Ticket) → blocked r t ≡ (looks r t && (not (has_vacant r (ahead t)) && not (is_wall r (ahead t))))

@@ -1,11 +1,10 @@
 -- The limits of an opening, and the slots of a board just opened.
-use Rattle.std.proofs.Common.{◌≡◌, ℕ, zero, suc, ◌-◌, ◌*◌, ◌≤◌, Bool, true, cond, ◌&&◌, leb, List, [], ◌++◌, take, replicate, Ok, Result, sym, refl, ◌∙◌, arith}
+use Rattle.std.proofs.Common.{◌≡◌, ℕ, zero, suc, ◌-◌, ◌*◌, ◌≤◌, Bool, true, cond, ◌&&◌, leb, List, [], ◌++◌, take, replicate, refl, ◌∙◌, arith}
 use Rattle.std.proofs.lemmas.Bool.{and_parts, leb-true}
 use Rattle.std.proofs.lemmas.Nat.{mul-le}
 use Rattle.rules.specs.declared.slot.Slot.{Slot}
 use Rattle.rules.specs.declared.slot.Slot.TheVariants.{Vacant}
 use Rattle.rules.specs.declared.ticket.Ticket.{Ticket}
-use Rattle.rules.specs.declared.refusal.Refusal.{Refusal}
 use Rattle.rules.specs.declared.rack.Sizes.{Sizes}
 use Rattle.rules.specs.Rack.{Rack}
 use Rattle.rules.specs.Calls.{within, openable, open'}
@@ -49,10 +48,6 @@ filled n k b old new p q r e =
 
 pub sized : (n k : ℕ) (b : Bool) (new : ℕ) → b ≡ true → new ≡ cond b n k → new ≡ n
 sized n k b new p e = e ∙ rw p refl
-
--- the outcome of an opening within the limits
-pub opened_answer : (x : Rack) (z : Sizes) (first : ℕ) → openable z first ≡ true → ◌≡◌ {A = Result (Unit {0}) Refusal} (Ok tt) (open' x z first).answer
-opened_answer x z first e = sym (rw e refl)
 
 pub opened_rack : (x y : Rack) (z : Sizes) (first : ℕ) → openable z first ≡ true → (ts : List Ticket) (ss : List Slot) → ts ≡ [] → ss ≡ replicate (z.columns * z.rows) Vacant
     → ◌≡◌ {A = Rack} (record { sizes = z; first = first; next = first; handbacks = 0; tickets = ts; slots = ss }) (open' x z first).rack

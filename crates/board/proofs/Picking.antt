@@ -5,7 +5,7 @@ use Rattle.rules.specs.declared.ticket.Ticket.{Ticket}
 use Rattle.rules.specs.Rack.{Rack, cells, has_vacant}
 use Rattle.rules.specs.Step.{ahead}
 use Rattle.rules.specs.declared.asked.Asked.{Asked}
-use Rattle.rules.specs.Choosers.{Meaning, mask_of, asked, Lawful, answer_of, held_by}
+use Rattle.rules.specs.Choosers.{Meaning, mask_of, asked, Lawful, answer_of}
 use Rattle.rules.specs.Calls.{row_for}
 use Rattle.rules.specs.Sound.{Sound}
 use Rattle.rules.proofs.Listing.{some_inj}

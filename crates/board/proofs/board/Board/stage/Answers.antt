@@ -1,15 +1,9 @@
-use Rattle.std.proofs.Common.{◌≡◌, Some, None, refl, rules, arith}
+use Rattle.std.proofs.Common.{◌≡◌, Some, None, refl, rules}
 use Rattle.std.specs.List.{position}
 use Rattle.rules.specs.Rack.{named}
 use Rattle.board.specs.Face.{rack_in}
 use Rattle.board.proofs.Places.{named_some, named_none}
 use Rattle.board.proofs.board.Board.stage.Goals as goal
-
-pub ticket-requires : goal.ticket-requires
-ticket-requires c =
-    let e : Some c.in-Some.i ≡ position (named c.args.number) (rack_in c.args.self.now).tickets = search rules in
-    let p = (named_some c.args.number (rack_in c.args.self.now).tickets c.in-Some.i e).0 in
-    let v = c.args.self.now.tables.tickets.ok.0 in omega arith
 
 pub returns : goal.returns
 returns c =

@@ -1,10 +1,7 @@
-use Rattle.std.proofs.Common.{sym, refl, arith}
-use Rattle.board.proofs.Filling.{filled_none, filled_vacant, filled_taken, filled_all}
+use Rattle.std.proofs.Common.{sym, arith}
+use Rattle.board.proofs.Filling.{filled_vacant, filled_taken, filled_all}
 use Rattle.board.proofs.evening.Evening.vacant_tallies.Goals as goal
 use Rattle.board.proofs.evening.Evening.vacant_tallies.Goals.{then-vacant_in, else-vacant_in}
-
-pub loop-row-init : goal.loop-row-init
-loop-row-init c = filled_none c.args.self.now.tallies c.args.mask _ refl
 
 pub loop-row-preserved : goal.loop-row-preserved
 loop-row-preserved c =
@@ -13,5 +10,5 @@ loop-row-preserved c =
       | else-vacant_in w ↦ rw (w.entries-is, w.len-is) (filled_taken _ _ _ _ _ _ c.loop-row.invariant (omega arith) (sym w.if-vacant_in.ensures.is))
     ]
 
-pub returns : goal.returns
-returns c = record { within = omega arith; entries = filled_all _ _ _ _ _ _ c.loop-row.invariant (omega arith) }
+pub returns-clause-entries : goal.returns-clause-entries
+returns-clause-entries c = filled_all _ _ _ _ _ _ c.loop-row.invariant (omega arith)
