@@ -12,9 +12,6 @@ pub record Filled (tallies : List ℕ) (mask : ℕ) (all entries : List RowTally
   pub filled : take len entries ++ vacant_tallies tallies mask row (17 - row) ≡ all
 
 module _ (tallies : List ℕ) (mask : ℕ) where
-  pub filled_none : (entries : List RowTally) → length entries ≡ 16 → Filled tallies mask (vacant_tallies tallies mask 1 16) entries 0 1
-  filled_none entries e = record { within = omega arith; places = e; filled = refl }
-
   module _ (all entries : List RowTally) (len row : ℕ) (f : Filled tallies mask all entries len row) where
     pub filled_all : row ≡ 17 → take len entries ≡ all
     unfolding vacant_tallies
