@@ -9,12 +9,16 @@ use crate::mask::vacant_in;
 use crate::tally::RowTally;
 use lists::foremost::foremost;
 use rules::asked::Asked;
+use rules::rack::MOST_ROWS;
+
+/// A tally for each row that a rack can have.
+const ROWS: usize = MOST_ROWS as usize;
 
 /// Picks the vacant row that it has picked least often, the lower one on ties. A tally stops at
 /// 65,535.
 #[derive(Clone, Copy)]
 pub struct Evening {
-    tallies: [u16; 16],
+    tallies: [u16; ROWS],
 }
 
 impl Evening {
@@ -22,17 +26,17 @@ impl Evening {
     pub fn new() -> Evening
         ensures { result ≡ record { tallies = replicate 16 0 } }
     {
-        Evening { tallies: [0; 16] }
+        Evening { tallies: [0; ROWS] }
     }
 
     // The vacant rows with their tallies, and how many there are.
-    fn vacant_tallies(&self, mask: u16) -> ([RowTally; 16], usize)
+    fn vacant_tallies(&self, mask: u16) -> ([RowTally; ROWS], usize)
         ensures within { result.1 ≤ 16 }
         ensures entries { take result.1 result.0 ≡ vacant_tallies self.now.tallies mask 1 16 }
     {
-        let mut entries = [RowTally { count: 0, row: 0 }; 16];
+        let mut entries = [RowTally { count: 0, row: 0 }; ROWS];
         let mut len = 0;
-        for row in 1..=16 {
+        for row in 1..=MOST_ROWS {
             if vacant_in(mask, row) {
                 entries[len] = RowTally {
                     count: self.tallies[row as usize - 1],

@@ -2,12 +2,14 @@
 ghost use Rattle.std.specs.Prelude.{◌≡◌, true, false, if◌then◌else◌, Some, None, ◌==◌, nat_eq};
 ghost use Rattle.rules.specs.Choosers.{vacant_in, first_row};
 
+use rules::rack::MOST_ROWS;
+
 // Whether the row is one of 1 to 16 and vacant; then the mask is not empty.
 pub fn vacant_in(mask: u16, row: u32) -> bool
     ensures is { result ≡ vacant_in mask row }
     ensures some { result ≡ true → (mask == 0) ≡ false }
 {
-    (1..=16).contains(&row) && (mask >> (row - 1)) & 1 == 1
+    (1..=MOST_ROWS).contains(&row) && (mask >> (row - 1)) & 1 == 1
 }
 
 // The lowest vacant row, if any is vacant.
