@@ -1,7 +1,6 @@
 -- The foremost of the vacant rows' tallies is the row that the evening chooser means.
-use Rattle.std.proofs.Common.{◌≡◌, ℕ, zero, suc, ◌+◌, ◌^◌, ◌<◌, ◌≤◌, Bool, true, false, cond, ◌⊎◌, List, [], ◌∷◌, length, get_or, take, sym, refl, ap, ◌∙◌, subst, inl, inr, arith}
+use Rattle.std.proofs.Common.{◌≡◌, ℕ, zero, suc, ◌+◌, ◌^◌, ◌<◌, ◌≤◌, Bool, true, false, cond, ◌⊎◌, List, [], ◌∷◌, length, get_or, sym, refl, ap, ◌∙◌, subst, inl, inr, arith}
 use lib.Count.{count_trailing_zeros}
-use Rattle.std.proofs.lemmas.List.{get_or-take, length-take}
 use Rattle.std.proofs.lemmas.Bool.{both_ways, cases_lt, cases_order}
 use Rattle.std.proofs.lemmas.Bool.Decides.{nat_tests}
 use Rattle.lists.specs.Order.{LeadsAt}
@@ -87,13 +86,10 @@ module _ (tallies : List ℕ) (mask : ℕ) where
           (subst (λ (y : RowTally). ranks (tallied tallies row) y ≡ true) m.2
           (subst (λ (x : RowTally). ranks x (get_or (vacant_tallies tallies mask 1 16) m.0 d) ≡ true) e (h.all m.0 d m.1)))
 
-  pub leads_evening : (entries : List RowTally) (len place at : ℕ) (d : RowTally) → take len entries ≡ vacant_tallies tallies mask 1 16
-      → LeadsAt ranks (take len entries) place → at ≡ place → PicksEvening tallies mask (get_or entries at d).row
-  leads_evening entries len place at d e h s =
-      let l : place < len = omega (arith, h.within, length-take len entries) in
-      let same : get_or (vacant_tallies tallies mask 1 16) place d ≡ get_or entries at d =
-      sym (ap (λ (xs : List RowTally). get_or xs place d) e) ∙ (get_or-take len entries place d l ∙ ap (λ (k : ℕ). get_or entries k d) (sym s)) in
-      subst (λ (x : RowTally). PicksEvening tallies mask x.row) same (leads_all place d (subst (λ (xs : List RowTally). LeadsAt ranks xs place) e h))
+  pub leads_evening : (entries : List RowTally) (place : ℕ) (d : RowTally) → entries ≡ vacant_tallies tallies mask 1 16
+      → LeadsAt ranks entries place → PicksEvening tallies mask (get_or entries place d).row
+  leads_evening entries place d e h =
+      subst (λ (xs : List RowTally). PicksEvening tallies mask (get_or xs place d).row) (sym e) (leads_all place d (subst (λ (xs : List RowTally). LeadsAt ranks xs place) e h))
 
 -- so the row is the one that the chooser means
 pub evening_row_lem : (tallies : List ℕ) (q : Asked) (row : ℕ) → PicksEvening tallies q.mask row → row ≡ evening_row tallies q

@@ -1,5 +1,5 @@
 //! The chooser that evens out its picks.
-ghost use Rattle.std.specs.Prelude.{◌≡◌, ◌≤◌, take, replicate};
+ghost use Rattle.std.specs.Prelude.{◌≡◌, ◌≤◌, replicate};
 ghost use Rattle.rules.specs.Choosers.{evening_row, picked};
 ghost use Rattle.board.specs.Tallies.{vacant_tallies, LeastPicked};
 ghost use Rattle.rules.proofs.Picks.{evening_lawful};
@@ -7,6 +7,7 @@ ghost use Rattle.rules.proofs.Picks.{evening_lawful};
 use crate::chooser::Chooser;
 use crate::mask::vacant_in;
 use crate::tally::RowTally;
+use arrayvec::ArrayVec;
 use lists::foremost::foremost;
 use rules::asked::Asked;
 use rules::rack::MOST_ROWS;
@@ -29,32 +30,27 @@ impl Evening {
         Evening { tallies: [0; ROWS] }
     }
 
-    // The vacant rows with their tallies, and how many there are.
-    fn vacant_tallies(&self, mask: u16) -> ([RowTally; ROWS], usize)
-        ensures within { result.1 ≤ 16 }
-        ensures entries { take result.1 result.0 ≡ vacant_tallies self.now.tallies mask 1 16 }
+    // The vacant rows with their tallies.
+    fn vacant_tallies(&self, mask: u16) -> ArrayVec<RowTally, ROWS>
+        ensures { result.items ≡ vacant_tallies self.now.tallies mask 1 16 }
     {
-        let mut entries = [RowTally { count: 0, row: 0 }; ROWS];
-        let mut len = 0;
-        for row in 1..=MOST_ROWS {
+        let mut entries = ArrayVec::new();
+        for (i, count) in self.tallies.iter().enumerate() {
+            let row = i as u32 + 1;
             if vacant_in(mask, row) {
-                entries[len] = RowTally {
-                    count: self.tallies[row as usize - 1],
-                    row,
-                };
-                len += 1;
+                entries.push(RowTally { count: *count, row });
             }
         }
-        (entries, len)
+        entries
     }
 
     // The vacant row with the smallest tally, the lower one on ties, if any is vacant.
     fn least_picked(&self, mask: u16) -> Option<u32>
         ensures { LeastPicked self.now.tallies mask result }
     {
-        let (entries, len) = self.vacant_tallies(mask);
-        let place = foremost(&entries[..len])?;
-        Some(entries[place].row)
+        let entries = self.vacant_tallies(mask);
+        let place = foremost(entries.as_slice())?;
+        Some(entries.as_slice()[place].row)
     }
 
     // One more pick of the row.

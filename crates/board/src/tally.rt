@@ -5,7 +5,7 @@ ghost use Rattle.std.proofs.Common.{rules};
 use lists::foremost::Ranked;
 
 // How often a row was picked.
-#[derive(Clone, Copy)]
+#[derive(Clone, Copy, Default)]
 pub struct RowTally {
     pub count: u16,
     pub row: u32,
