@@ -2,4 +2,5 @@ pub mod Cutting
 pub mod Filling
 pub mod Framing
 pub mod Paging
+pub mod Placing
 pub mod Reading
