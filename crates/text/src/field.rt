@@ -42,10 +42,11 @@ pub(crate) struct Fields<'a> {
 }
 
 impl<'a> Fields<'a> {
-    pub(crate) fn of(line: &'a [u8]) -> Fields<'a>
-        ensures { fields_left result.rest ≡ fields_of line.now }
+    /// The fields of what is left of a line, if anything is.
+    pub(crate) fn left(rest: Option<&'a [u8]>) -> Fields<'a>
+        ensures { fields_left result.rest ≡ fields_left rest.entry }
     {
-        Fields { rest: Some(line) }
+        Fields { rest }
     }
 }
 
@@ -68,5 +69,5 @@ pub fn count_fields(line: &[u8]) -> usize
     ensures count { result ≡ length (fields_of line.now) }
     ensures fields { FieldsAreTheLineCutAtTabs }
 {
-    Fields::of(line).count()
+    Fields::left(Some(line)).count()
 }

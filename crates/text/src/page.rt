@@ -77,7 +77,7 @@ pub fn check(page: &[u8]) -> Result<(), Fault>
     ensures room { Checked page.now result }
 {
     if page.len() < SHORTEST {
-        return Err(Fault::new(Refusal::Page, 0, 0));
+        return Err(Refusal::Page.into());
     }
     Ok(())
 }
