@@ -1,10 +1,10 @@
 -- One text after another on a page.
-use Rattle.std.proofs.Common.{◌≡◌, ℕ, ◌+◌, ◌/◌, ◌^◌, ◌<◌, ◌≤◌, Bool, true, false, cond, eqb, ltb, List, [], ◌∷◌, ◌++◌, map, length, get_or, take, drop, Ok, decimal, sym, refl, ap, ◌∙◌, subst, append_assoc, arith}
-use Rattle.std.proofs.lemmas.Fmt.{length-decimal-le, decimal_step}
+use Rattle.std.proofs.Common.{◌≡◌, ℕ, ◌+◌, ◌^◌, ◌<◌, ◌≤◌, Bool, true, false, cond, eqb, ltb, List, [], ◌∷◌, ◌++◌, map, length, get_or, take, drop, Ok, decimal, sym, refl, ap, ◌∙◌, subst, append_assoc, arith}
+use Rattle.std.proofs.lemmas.Fmt.{length-decimal-le}
 use Rattle.std.proofs.lemmas.Bool.{le-ltb, ne_eqb}
-use Rattle.std.proofs.lemmas.List.{drop-drop, length-append, length_push, take-append-drop, at_drop_more, at_drop_all}
+use Rattle.std.proofs.lemmas.List.{drop-drop, length-append, take-append-drop, at_drop_more, at_drop_all}
 use Rattle.text.specs.Fields.{tab, tabbed, line_of}
-use Rattle.text.specs.Pages.{Puts, gap, field_text, answered, page_with}
+use Rattle.text.specs.Pages.{Puts, gap, field_text, fault_fields, answered, page_with}
 use Rattle.text.specs.Faults.{layer_of, layer_word}
 use Rattle.text.specs.declared.fault.Fault.{Fault}
 use Rattle.text.specs.declared.fault.Layer.{Layer}
@@ -12,10 +12,6 @@ use Rattle.text.specs.declared.page.Field.{Field}
 use Rattle.text.specs.declared.page.Field.TheVariants as field
 use Rattle.rules.specs.declared.refusal.Refusal.{Refusal}
 use Rattle.rules.specs.Words.{refusal_number}
-
--- a figure of more than one digit has one more than its tenth
-pub more_long : (n : ℕ) → 10 ≤ n → n < 2 ^ 64 → length (decimal n) ≡ length (decimal (n / 10)) + 1
-more_long n h f = ap length (decimal_step n h f) ∙ length_push (decimal (n / 10)) _
 
 pub puts_then : {page mid after : List ℕ} {at next end : ℕ} {text more : List ℕ} → Puts page at text mid next → Puts mid next more after end → Puts page at (text ++ more) after end
 puts_then {page} {mid} {after} {at} {next} {end} {text} {more} p q =
@@ -47,13 +43,22 @@ layer_short l = grind arith
 number_small : (r : Refusal) → refusal_number r < 14
 number_small r = grind arith
 
--- how long the fields of a fault are at most, as they were read off it
-pub fault_short : (f : Fault) (word : List ℕ) (number field : ℕ) → word ≡ layer_word (layer_of f.refusal) → number ≡ refusal_number f.refusal → field ≡ f.field → f.field < 2 ^ 32
-    → (length word ≤ 5) × (length (decimal number) ≤ 2) × (length (decimal field) ≤ 10)
-fault_short f word number field w n k h =
+-- how long the fields of a fault are at most, with what stands between them
+pub fault_short : (f : Fault) → f.field < 2 ^ 32 → length (line_of (fault_fields f)) ≤ 20
+fault_short f h =
     let l = layer_short (layer_of f.refusal) in
     let s = number_small f.refusal in
-    (omega (arith, ap length w), length-decimal-le 2 number (omega arith) (omega arith) (omega arith), length-decimal-le 10 field (omega arith) (omega arith) (omega arith))
+    let number = length-decimal-le 2 (refusal_number f.refusal) (omega arith) (omega arith) (omega arith) in
+    let field = length-decimal-le 10 f.field (omega arith) (omega arith) (omega arith) in
+    simp length-append (omega arith)
+
+-- a line of three fields that lie in a list
+pub of_three : (fs : List Field) (d : Field) → length fs ≡ 3 → field_text (get_or fs 0 d) ++ (tab ∷ (field_text (get_or fs 1 d) ++ (tab ∷ (field_text (get_or fs 2 d) ++ (10 ∷ []))))) ≡ line_of (map field_text fs)
+of_three [] d h = absurd (omega arith)
+of_three (a ∷ []) d h = absurd (omega arith)
+of_three (a ∷ b ∷ []) d h = absurd (omega arith)
+of_three (a ∷ b ∷ c ∷ []) d h = refl
+of_three (a ∷ b ∷ c ∷ e ∷ fs) d h = absurd (omega arith)
 
 pub figure_short : (n : ℕ) → n < 2 ^ 64 → length (decimal n) ≤ 20
 figure_short n h = length-decimal-le 20 n (omega arith) (omega arith) h

@@ -1,9 +1,11 @@
 //! Text on a page that the caller lends.
-ghost use Rattle.std.specs.Prelude.{◌≡◌, ◌+◌, ◌≤◌, map, length, IfOk, decimal};
+ghost use Rattle.std.specs.Prelude.{◌≡◌, ◌+◌, ◌≤◌, map, length, IfOk};
 ghost use Rattle.text.specs.Fields.{line_of};
-ghost use Rattle.text.specs.Pages.{shortest, field_text, gap, Puts, checked, Checked, no_line, fault_line, end_line, answered, page_with};
+ghost use Rattle.text.specs.declared.page.Field.TheVariants.{Figure};
+ghost use Rattle.text.specs.Pages.{shortest, field_text, gap, Puts, checked, Checked, fault_fields, no_line, fault_line, end_line, answered, page_with};
 
 use crate::fault::Fault;
+use itoa::Buffer;
 use rules::refusal::Refusal;
 
 /// A page of this many bytes has room for every answer.
@@ -16,6 +18,14 @@ pub enum Field<'a> {
     Figure(u64),
 }
 
+impl From<u32> for Field<'_> {
+    ghost from_gives = { λ n field. field ≡ Figure n };
+
+    fn from(n: u32) -> Self {
+        Field::Figure(u64::from(n))
+    }
+}
+
 /// Writes the text from `at` on, and answers the place after it.
 fn put(page: &mut [u8], at: usize, text: &[u8]) -> usize
     requires { at + length text.now ≤ length page.old }
@@ -26,20 +36,6 @@ fn put(page: &mut [u8], at: usize, text: &[u8]) -> usize
     end
 }
 
-/// Writes the digits of `n`.
-fn put_digits(page: &mut [u8], at: usize, n: u64) -> usize
-    requires { at + length (decimal n) ≤ length page.old }
-    ensures { Puts page.old at (decimal n) page.new result }
-{
-    if n < 10 {
-        page[at] = b'0' + n as u8;
-        return at + 1;
-    }
-    let end = put_digits(page, at, n / 10);
-    page[end] = b'0' + (n % 10) as u8;
-    end + 1
-}
-
 /// Writes a field.
 fn put_field(page: &mut [u8], at: usize, field: Field) -> usize
     requires { at + length (field_text field) ≤ length page.old }
@@ -47,7 +43,10 @@ fn put_field(page: &mut [u8], at: usize, field: Field) -> usize
 {
     match field {
         Field::Word(text) => put(page, at, text),
-        Field::Figure(n) => put_digits(page, at, n),
+        Field::Figure(n) => {
+            let mut digits = Buffer::new();
+            put(page, at, digits.format(n).as_bytes())
+        }
     }
 }
 
@@ -93,22 +92,26 @@ fn write_line(page: &mut [u8], fields: &[Field]) -> Result<usize, Fault>
     Ok(put_line(page, 0, fields))
 }
 
+/// What tells a fault in a line: its layer, its number and its field.
+fn fault_fields(fault: Fault) -> [Field<'static>; 3]
+    ensures fields { map field_text result ≡ fault_fields fault }
+    ensures short { length (line_of (fault_fields fault)) ≤ 20 }
+{
+    [
+        Field::Word(fault.layer().word()),
+        fault.refusal.number().into(),
+        fault.field.into(),
+    ]
+}
+
 /// Writes the answer to a line that was refused: `no` and the fault.
 pub fn write_no(page: &mut [u8], fault: Fault) -> Result<usize, Fault>
     ensures value { result ≡ answered (no_line fault) page.old }
     ensures after { page.new ≡ page_with (no_line fault) page.old }
     ensures fits { IfOk result (λ n. n ≤ shortest) }
 {
-    let layer = fault.layer().word();
-    let number = u64::from(fault.refusal.number());
-    let field = u64::from(fault.field);
-    let fields = [
-        Field::Word(b"no"),
-        Field::Word(layer),
-        Field::Figure(number),
-        Field::Figure(field),
-    ];
-    write_line(page, &fields)
+    let [layer, number, field] = fault_fields(fault);
+    write_line(page, &[Field::Word(b"no"), layer, number, field])
 }
 
 /// Writes the closing line of a fault: `fault`, the number of its line, and the fault.
@@ -117,17 +120,17 @@ pub fn write_fault(page: &mut [u8], line: u64, fault: Fault) -> Result<usize, Fa
     ensures after { page.new ≡ page_with (fault_line line fault) page.old }
     ensures fits { IfOk result (λ n. n ≤ shortest) }
 {
-    let layer = fault.layer().word();
-    let number = u64::from(fault.refusal.number());
-    let field = u64::from(fault.field);
-    let fields = [
-        Field::Word(b"fault"),
-        Field::Figure(line),
-        Field::Word(layer),
-        Field::Figure(number),
-        Field::Figure(field),
-    ];
-    write_line(page, &fields)
+    let [layer, number, field] = fault_fields(fault);
+    write_line(
+        page,
+        &[
+            Field::Word(b"fault"),
+            Field::Figure(line),
+            layer,
+            number,
+            field,
+        ],
+    )
 }
 
 /// Writes the last line: `end`, how many lines were read, and how many of them were refused.
@@ -136,10 +139,12 @@ pub fn write_end(page: &mut [u8], lines: u64, refusals: u64) -> Result<usize, Fa
     ensures after { page.new ≡ page_with (end_line lines refusals) page.old }
     ensures fits { IfOk result (λ n. n ≤ shortest) }
 {
-    let fields = [
-        Field::Word(b"end"),
-        Field::Figure(lines),
-        Field::Figure(refusals),
-    ];
-    write_line(page, &fields)
+    write_line(
+        page,
+        &[
+            Field::Word(b"end"),
+            Field::Figure(lines),
+            Field::Figure(refusals),
+        ],
+    )
 }

@@ -1,7 +1,7 @@
-use Rattle.std.proofs.Common.{◌≡◌, ℕ, ⊎_elim, ◌+◌, ◌∷◌, ◌||◌, eqb, take, drop, true, Some, sym, ap, ◌∙◌}
+use Rattle.std.proofs.Common.{◌≡◌, ℕ, ⊎_elim, ◌+◌, ◌∷◌, ◌||◌, eqb, take, true, Some, sym, ap, ◌∙◌}
 use Rattle.std.proofs.lemmas.List.{take_rest}
 use Rattle.std.proofs.lemmas.Bool.{eqb-true, or_cases}
-use Rattle.text.specs.Fields.{fields_of, plain}
+use Rattle.text.specs.Fields.{fields_of}
 use Rattle.text.proofs.Placing.{none_passes, first_at}
 use Rattle.text.proofs.Cutting.{tab_at, feed_at, ends_at_tab, ends_at_feed, plain_from, plain_end, cut_end}
 use Rattle.text.proofs.field.next_field.Goals as goal

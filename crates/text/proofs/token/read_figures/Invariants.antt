@@ -1,4 +1,4 @@
-use Rattle.std.proofs.Common.{◌≡◌, ℕ, ◌+◌, ◌^◌, ◌<◌, List, length, take, drop}
+use Rattle.std.proofs.Common.{◌≡◌, ◌+◌, ◌^◌, ◌<◌, length, take, drop}
 use Rattle.text.specs.Fields.{fields_of, fields_left}
 use Rattle.text.specs.Tokens.{figures_from, figures_of}
 use Rattle.text.proofs.Filling.{onward}
