@@ -5,21 +5,15 @@ use Rattle.std.specs.Option.{option_map}
 use Rattle.lists.specs.declared.journal.Journal.{Journal}
 use Rattle.lists.specs.Reading.{contents_of}
 use Rattle.lists.specs.Contents.{Contents, pushed}
-use Rattle.rules.specs.declared.refusal.Refusal.TheVariants as refusal
-use Rattle.console.specs.declared.fault.Fault.{Fault}
+use Rattle.text.specs.declared.fault.Fault.{Fault}
 use Rattle.console.specs.declared.session.Session.{Session}
-use Rattle.console.specs.declared.session.LineFault.{LineFault}
-use Rattle.console.specs.Faults.{fault_of}
+use Rattle.text.specs.declared.fault.LineFault.{LineFault}
 use Rattle.console.specs.Lines.{line_fault}
-use Rattle.console.specs.Pages.{shortest, no_line, answered, page_with}
+use Rattle.text.specs.Pages.{shortest, no_line, answered, page_with}
 
 -- a count of one more, unless it is as large as it can be
 abbrev pub counted : ℕ → ℕ
 counted n = min (n + 1) (2 ^ 64 - 1)
-
--- no line, and a fault that tells nothing
-abbrev pub blank_fault : LineFault
-blank_fault = record { line = 0; fault = fault_of refusal.Line 0 0 }
 
 abbrev pub new_session : Session
 new_session = record { lines = 0; refusals = 0 }

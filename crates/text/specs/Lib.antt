@@ -6,3 +6,4 @@ pub mod Heads
 pub mod Lines
 pub mod Pages
 pub mod Tokens
+pub mod Verbs

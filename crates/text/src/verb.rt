@@ -1,6 +1,9 @@
-//! The words that a line can begin with.
+//! The words that a line of the console can begin with.
 ghost use Rattle.std.specs.Prelude.{◌≡◌};
-ghost use Rattle.console.specs.Verbs.{verb_word, verb_figures, Names};
+ghost use Rattle.text.specs.Verbs.{verb_word, verb_figures, verb_of, Names};
+
+use crate::figures::Figures;
+use crate::head::Head;
 
 /// What a line asks for.
 #[derive(Clone, Copy, PartialEq, Eq, Debug)]
@@ -15,31 +18,7 @@ pub enum Verb {
     Show,
 }
 
-/// How many figures may follow a verb: `least` to `most`.
-#[derive(Clone, Copy, PartialEq, Eq, Debug)]
-pub struct Figures {
-    pub least: u32,
-    pub most: u32,
-}
-
 impl Verb {
-    /// The verb that has this word.
-    pub fn named(text: &[u8]) -> Option<Verb>
-        ensures { Names text.now result }
-    {
-        match text {
-            b"open" => Some(Verb::Open),
-            b"book" => Some(Verb::Book),
-            b"step" => Some(Verb::Step),
-            b"drive" => Some(Verb::Drive),
-            b"collect" => Some(Verb::Collect),
-            b"drop" => Some(Verb::Drop),
-            b"back" => Some(Verb::Back),
-            b"show" => Some(Verb::Show),
-            _ => None,
-        }
-    }
-
     /// The verb's word, the first field of its line.
     pub fn word(self) -> &'static [u8]
         ensures { result.now ≡ verb_word self }
@@ -55,11 +34,39 @@ impl Verb {
             Verb::Show => b"show",
         }
     }
+}
 
-    /// The figures that follow its word.
-    pub fn figures(self) -> Figures
-        ensures { result ≡ verb_figures self }
+/// The verb that has this word.
+fn verb_of(text: &[u8]) -> Option<Verb>
+    ensures { Names text.now result }
+{
+    match text {
+        b"open" => Some(Verb::Open),
+        b"book" => Some(Verb::Book),
+        b"step" => Some(Verb::Step),
+        b"drive" => Some(Verb::Drive),
+        b"collect" => Some(Verb::Collect),
+        b"drop" => Some(Verb::Drop),
+        b"back" => Some(Verb::Back),
+        b"show" => Some(Verb::Show),
+        _ => None,
+    }
+}
+
+/// A line of the console begins with a verb.
+impl Head for Verb {
+    ghost spelled = { verb_of };
+
+    ghost wants = { verb_figures };
+
+    fn named(text: &[u8]) -> Option<Verb>
+        ensures verb { result ≡ verb_of text.now }
+        ensures names { Names text.now result }
     {
+        verb_of(text)
+    }
+
+    fn figures(self) -> Figures {
         match self {
             Verb::Open => Figures { least: 5, most: 5 },
             Verb::Book => Figures { least: 2, most: 2 },

@@ -1,8 +1,10 @@
 -- The verbs: their words, and how many figures follow.
-use Rattle.std.specs.Prelude.{◌≡◌, ℕ, List, Some, None, codes, Option, ◌≢◌}
-use Rattle.console.specs.declared.verb.Verb.{Verb}
-use Rattle.console.specs.declared.verb.Verb.TheVariants as verb
-use Rattle.console.specs.declared.verb.Figures.{Figures}
+use Rattle.std.specs.Prelude.{◌≡◌, ℕ, List, [], ◌∷◌, Some, None, codes, Option, ◌≢◌}
+use Rattle.std.specs.Str.{bytes_eq}
+use Rattle.rules.specs.Lists.{find}
+use Rattle.text.specs.declared.figures.Figures.{Figures}
+use Rattle.text.specs.declared.verb.Verb.{Verb}
+use Rattle.text.specs.declared.verb.Verb.TheVariants as verb
 
 abbrev pub verb_word : Verb → List ℕ
 verb_word verb.Open = codes "open"
@@ -27,6 +29,13 @@ verb_figures verb.Collect = between 1 1
 verb_figures verb.Drop = between 1 1
 verb_figures verb.Back = between 1 1
 verb_figures verb.Show = between 1 1
+
+abbrev pub verbs : List Verb
+verbs = verb.Open ∷ verb.Book ∷ verb.Step ∷ verb.Drive ∷ verb.Collect ∷ verb.Drop ∷ verb.Back ∷ verb.Show ∷ []
+
+-- the verb that has this word
+abbrev pub verb_of : List ℕ → Option Verb
+verb_of text = find (λ v. bytes_eq text (verb_word v)) verbs
 
 -- the text is this verb's word; or it is no verb's
 abbrev pub Names : List ℕ → Option Verb → Type 0
