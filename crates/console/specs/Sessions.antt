@@ -1,19 +1,16 @@
 -- What the handling of one line makes of page, counters and faults.
-use Rattle.std.specs.Prelude.{ℕ, ◌+◌, ◌-◌, ◌^◌, min, cond, List, length, Option, Result, nat_lt}
+use Rattle.std.specs.Prelude.{ℕ, cond, List, length, Option, Result, nat_lt}
 use Rattle.std.specs.Borrow.{Bor}
 use Rattle.std.specs.Option.{option_map}
 use Rattle.lists.specs.declared.journal.Journal.{Journal}
 use Rattle.lists.specs.Reading.{contents_of}
 use Rattle.lists.specs.Contents.{Contents, pushed}
+use Rattle.text.specs.Counts.{counted}
 use Rattle.text.specs.declared.fault.Fault.{Fault}
 use Rattle.console.specs.declared.session.Session.{Session}
 use Rattle.text.specs.declared.fault.LineFault.{LineFault}
 use Rattle.console.specs.Lines.{line_fault}
 use Rattle.text.specs.Pages.{shortest, no_line, answered, page_with}
-
--- a count of one more, unless it is as large as it can be
-abbrev pub counted : ℕ → ℕ
-counted n = min (n + 1) (2 ^ 64 - 1)
 
 abbrev pub new_session : Session
 new_session = record { lines = 0; refusals = 0 }

@@ -2,11 +2,11 @@
 use Rattle.std.specs.Prelude.{ℕ, List, Ok, Err, Result, slice_index}
 use Rattle.text.specs.declared.fault.Fault.{Fault}
 use Rattle.text.specs.Heads.{line_read}
-use Rattle.console_next.specs.declared.verb.Verb.{Verb}
-use Rattle.console_next.specs.declared.verb.Verb.TheVariants as verb
+use Rattle.text.specs.declared.verb.Verb.{Verb}
+use Rattle.text.specs.declared.verb.Verb.TheVariants as verb
 use Rattle.console_next.specs.declared.order.Order.{Order}
 use Rattle.console_next.specs.declared.order.Order.TheVariants as order
-use Rattle.console_next.specs.Verbs.{verb_of, verb_figures}
+use Rattle.text.specs.Verbs.{verb_of, verb_figures}
 
 -- the figures in the order in which a line has them: rows, columns, places, lead, first number; start, length; number; number, budget; column
 abbrev pub order_for : Verb → List ℕ → Order

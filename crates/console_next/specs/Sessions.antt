@@ -1,5 +1,5 @@
 -- What the handling of one line makes of page, board, chooser, journals and counters.
-use Rattle.std.specs.Prelude.{◌≡◌, ℕ, ◌+◌, ◌-◌, ◌^◌, min, cond, List, [], length, Some, None, Ok, Err, Option, Result, nat_lt}
+use Rattle.std.specs.Prelude.{◌≡◌, ℕ, cond, List, [], length, Some, None, Ok, Err, Option, Result, nat_lt}
 use Rattle.lists.specs.Contents.{Contents, cleared, pushed}
 use Rattle.lists.specs.Reading.{contents_of}
 use Rattle.lists.specs.declared.journal.Journal.{Journal}
@@ -8,6 +8,7 @@ use Rattle.rules.specs.declared.report.Report.{Report}
 use Rattle.rules.specs.Rack.{Rack}
 use Rattle.rules.specs.Choosers.{Meaning}
 use Rattle.board.specs.Face.{rack_in}
+use Rattle.text.specs.Counts.{counted}
 use Rattle.text.specs.declared.fault.Fault.{Fault}
 use Rattle.text.specs.declared.fault.LineFault.{LineFault}
 use Rattle.text.specs.Faults.{fault_of}
@@ -16,10 +17,6 @@ use Rattle.text.specs.Pages.{shortest, no_line, over}
 use Rattle.console_next.specs.declared.session.Session.{Session}
 use Rattle.console_next.specs.Calls.{Telling}
 use Rattle.console_next.specs.Answers.{Answered, refused_with, answered}
-
--- a count of one more, unless it is as large as it can be
-abbrev pub counted : ℕ → ℕ
-counted n = min (n + 1) (2 ^ 64 - 1)
 
 -- What a session works with: the rack of its board, what its chooser holds, the reports of the last line, the faults noted, how many
 -- lines were read, and how many of them were refused.

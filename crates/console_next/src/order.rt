@@ -2,11 +2,11 @@
 ghost use Rattle.std.specs.Prelude.{◌≡◌};
 ghost use Rattle.console_next.specs.Orders.{order_for, order_of};
 
-use crate::verb::Verb;
 use rules::ticket::Request;
 use text::fault::Fault;
 use text::head::read_line;
 use text::token::MOST_FIGURES;
+use text::verb::Verb;
 
 /// A call of the board with its figures.
 #[derive(Clone, Copy, PartialEq, Eq, Debug)]

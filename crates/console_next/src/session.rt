@@ -6,7 +6,8 @@ ghost use Rattle.lists.specs.Reading.{contents_of};
 ghost use Rattle.board.specs.Face.{rack_in};
 ghost use Rattle.text.specs.Pages.{shortest, no_line, over};
 ghost use Rattle.console_next.specs.Calls.{Continues};
-ghost use Rattle.console_next.specs.Sessions.{counted, desk_of, line_answered, handled, ALongLineIsNoLine};
+ghost use Rattle.text.specs.Counts.{counted};
+ghost use Rattle.console_next.specs.Sessions.{desk_of, line_answered, handled, ALongLineIsNoLine};
 
 use crate::answer::answer;
 use board::board::Board;
@@ -58,9 +59,7 @@ impl<C: Chooser> Session<C> {
         ensures history { Continues (line_answered C.Chooser.meaning (option_map (λ x. x.now) line.entry) page.old (rack_in self.old.board) (contents_of reports.old) self.old.chooser).tells (rack_in self.old.board) (rack_in self.new.board) }
         ensures fits { IfOk result (λ n. n ≤ length page.old) }
     {
-        let Some(line) = line else {
-            return Err(Fault::new(Refusal::Line, 0, 0));
-        };
+        let line = line.ok_or(Refusal::Line)?;
         answer(&mut self.board, &mut self.chooser, reports, line, page)
     }
 

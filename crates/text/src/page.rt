@@ -18,8 +18,9 @@ pub enum Field<'a> {
     Figure(u64),
 }
 
+/// A figure of 32 bits has at most ten digits.
 impl From<u32> for Field<'_> {
-    ghost from_gives = { λ n field. field ≡ Figure n };
+    ghost from_gives = { λ n field. (field ≡ Figure n) × (length (field_text field) ≤ 10) };
 
     fn from(n: u32) -> Self {
         Field::Figure(u64::from(n))
