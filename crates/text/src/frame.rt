@@ -13,7 +13,7 @@ pub const LONGEST: usize = 80;
 pub const FEED: u8 = b'\n';
 
 /// Where the first line feed is.
-pub(crate) fn find_feed(bytes: &[u8]) -> Option<usize>
+pub fn find_feed(bytes: &[u8]) -> Option<usize>
     ensures place { result ≡ position (λ b. b == feed) bytes.now }
     ensures inside { IfSome result (λ i. i < length bytes.now) }
 {
