@@ -50,18 +50,6 @@ module _ {sheet : List ℕ} {gs : List GrantLine} {n last : ℕ} {rest : List �
   pub underway_all : lines_of rest ≡ [] → sheet_read sheet ≡ Ok gs
   underway_all h = sym u.onwards ∙ ap (λ ls. onward gs (lines_read (n + 1) last ls)) h ∙ ap Ok (append-nil gs)
 
--- what a reading comes to, by its count
-pub counted_err : (r : Result (List GrantLine) LineFault) (f : LineFault) → counted r ≡ Err f → r ≡ Err f
-counted_err (Err e) f h = h' h
-  where
-    h' : ◌≡◌ {A = Result ℕ LineFault} (Err e) (Err f) → ◌≡◌ {A = Result (List GrantLine) LineFault} (Err e) (Err f)
-    h' p = let q : e ≡ f = cc in ap Err q
-counted_err (Ok gs) f h = let z : ◌≡◌ {A = ℕ} 0 1 = cc in absurd (omega arith)
-
-pub counted_ok : (r : Result (List GrantLine) LineFault) (n : ℕ) → counted r ≡ Ok n → (gs : List GrantLine) × (r ≡ Ok gs) × (n ≡ length gs)
-counted_ok (Err f) n h = let z : ◌≡◌ {A = ℕ} 0 1 = cc in absurd (omega arith)
-counted_ok (Ok gs) n h = (gs, refl, (cc))
-
 -- the outcomes of a reading
 module _ (r : Result (List GrantLine) LineFault) (gs places : List GrantLine) (e : r ≡ Ok gs) where
   pub outcome_short : length places < length gs → into_list r places ≡ refused no_room places

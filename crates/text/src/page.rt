@@ -27,26 +27,39 @@ impl From<u32> for Field<'_> {
     }
 }
 
-/// Writes the text from `at` on, and answers the place after it.
-fn put(page: &mut [u8], at: usize, text: &[u8]) -> usize
-    requires { at + length text.now ≤ length page.old }
-    ensures { Puts page.old at text.now page.new result }
-{
-    let end = at + text.len();
-    page[at..end].copy_from_slice(text);
-    end
+/// A page, and the place from which on it is written.
+#[derive(Drop)]
+struct Writer<'a> {
+    page: &'a mut [u8],
+    at: usize,
 }
 
-/// Writes a field.
-fn put_field(page: &mut [u8], at: usize, field: Field) -> usize
-    requires { at + length (field_text field) ≤ length page.old }
-    ensures { Puts page.old at (field_text field.entry) page.new result }
-{
-    match field {
-        Field::Word(text) => put(page, at, text),
-        Field::Figure(n) => {
-            let mut digits = Buffer::new();
-            put(page, at, digits.format(n).as_bytes())
+impl Writer<'_> {
+    /// Writes the text.
+    fn put(&mut self, text: &[u8])
+        requires { self.old.at + length text.now ≤ length self.old.page.now }
+        ensures text { Puts self.old.page.now self.old.at text.now self.new.page.now self.new.at }
+        ensures same { self.new.page.ghost_name ≡ self.old.page.ghost_name }
+        ensures long { length self.new.page.now ≡ length self.old.page.now }
+    {
+        let end = self.at + text.len();
+        self.page[self.at..end].copy_from_slice(text);
+        self.at = end;
+    }
+
+    /// Writes a field.
+    fn put_field(&mut self, field: Field)
+        requires { self.old.at + length (field_text field) ≤ length self.old.page.now }
+        ensures text { Puts self.old.page.now self.old.at (field_text field.entry) self.new.page.now self.new.at }
+        ensures same { self.new.page.ghost_name ≡ self.old.page.ghost_name }
+        ensures long { length self.new.page.now ≡ length self.old.page.now }
+    {
+        match field {
+            Field::Word(text) => self.put(text),
+            Field::Figure(n) => {
+                let mut digits = Buffer::new();
+                self.put(digits.format(n).as_bytes());
+            }
         }
     }
 }
@@ -63,12 +76,13 @@ pub fn put_line(page: &mut [u8], at: usize, fields: &[Field]) -> usize
     requires { at + length (line_of (map field_text fields.now)) ≤ length page.old }
     ensures { Puts page.old at (line_of (map field_text fields.now)) page.new result }
 {
-    let mut end = at;
+    let mut writer = Writer { page, at };
     for (i, field) in fields.iter().enumerate() {
-        end = put(page, end, gap_before(i));
-        end = put_field(page, end, *field);
+        writer.put(gap_before(i));
+        writer.put_field(*field);
     }
-    put(page, end, b"\n")
+    writer.put(b"\n");
+    writer.at
 }
 
 /// Whether the page has room for an answer.
