@@ -1,25 +1,14 @@
 -- What the handling of one line makes of page, counters and faults.
-use Rattle.std.specs.Prelude.{ℕ, ◌+◌, ◌-◌, ◌^◌, min, cond, List, length, Option, Result, nat_lt}
+use Rattle.std.specs.Prelude.{ℕ, cond, List, length, Option, Result, nat_lt}
 use Rattle.std.specs.Borrow.{Bor}
 use Rattle.std.specs.Option.{option_map}
-use Rattle.lists.specs.declared.journal.Journal.{Journal}
-use Rattle.lists.specs.Reading.{contents_of}
 use Rattle.lists.specs.Contents.{Contents, pushed}
-use Rattle.rules.specs.declared.refusal.Refusal.TheVariants as refusal
-use Rattle.console.specs.declared.fault.Fault.{Fault}
+use Rattle.text.specs.Counts.{counted}
+use Rattle.text.specs.declared.fault.Fault.{Fault}
 use Rattle.console.specs.declared.session.Session.{Session}
-use Rattle.console.specs.declared.session.LineFault.{LineFault}
-use Rattle.console.specs.Faults.{fault_of}
+use Rattle.text.specs.declared.fault.LineFault.{LineFault}
 use Rattle.console.specs.Lines.{line_fault}
-use Rattle.console.specs.Pages.{shortest, no_line, answered, page_with}
-
--- a count of one more, unless it is as large as it can be
-abbrev pub counted : ℕ → ℕ
-counted n = min (n + 1) (2 ^ 64 - 1)
-
--- no line, and a fault that tells nothing
-abbrev pub blank_fault : LineFault
-blank_fault = record { line = 0; fault = fault_of refusal.Line 0 0 }
+use Rattle.text.specs.Pages.{shortest, no_line, answered, page_with}
 
 abbrev pub new_session : Session
 new_session = record { lines = 0; refusals = 0 }
@@ -46,5 +35,5 @@ handled line page session faults =
     }
 
 -- the same, of the arguments of the call: the line is still behind its reference
-abbrev pub handled_at : Option (Bor (List ℕ)) → List ℕ → Session → Journal LineFault → Handled
-handled_at line page session faults = handled (option_map (λ x. x.now) line) page session (contents_of faults)
+abbrev pub handled_at : Option (Bor (List ℕ)) → List ℕ → Session → Contents LineFault → Handled
+handled_at line page session faults = handled (option_map (λ x. x.now) line) page session faults

@@ -1,9 +1,8 @@
-//! The console: lines in, answers on a page, faults that say where.
+//! The first console: lines in, each of them refused on a page, faults that say where. How lines are
+//! framed, read and written is the business of `text`.
 #![tactic(auto)]
 
-pub mod fault;
-pub mod frame;
 pub mod line;
-pub mod page;
 pub mod session;
-pub mod verb;
+
+pub use text::{fault, frame, page, verb};

@@ -1,33 +1,13 @@
 //! One line after another: each is answered, counted, and its fault noted.
 ghost use Rattle.std.specs.Prelude.{◌≡◌, ◌≤◌, IfOk};
-ghost use Rattle.lists.specs.Reading.{contents_of};
-ghost use Rattle.console.specs.Pages.{shortest};
-ghost use Rattle.console.specs.Sessions.{blank_fault, new_session, handled_at};
+ghost use Rattle.text.specs.Pages.{shortest};
+ghost use Rattle.console.specs.Sessions.{new_session, handled_at};
 
-use crate::fault::Fault;
 use crate::line::read_line;
-use crate::page::write_no;
 pub use lists::journal::Journal;
-use rules::refusal::Refusal;
-
-/// A fault, and the number of its line, counted from 1.
-#[derive(Clone, Copy, PartialEq, Eq, Debug)]
-pub struct LineFault {
-    pub line: u64,
-    pub fault: Fault,
-}
-
-impl LineFault {
-    /// What a place holds before a fault is noted in it.
-    pub fn blank() -> LineFault
-        ensures { result ≡ blank_fault }
-    {
-        LineFault {
-            line: 0,
-            fault: Fault::new(Refusal::Line, 0, 0),
-        }
-    }
-}
+use text::fault::Fault;
+pub use text::fault::LineFault;
+use text::page::write_no;
 
 /// How many lines were read, and how many of them were refused. A count that is as large as it can be stays.
 #[derive(Clone, Copy, PartialEq, Eq, Debug)]
@@ -58,8 +38,7 @@ impl Session {
         ensures fits { IfOk result (λ n. n ≤ shortest) }
         ensures page { page.new ≡ (handled_at line.entry page.old self.old faults.old).page }
         ensures session { self.new ≡ (handled_at line.entry page.old self.old faults.old).session }
-        ensures faults { contents_of faults.new ≡ (handled_at line.entry page.old self.old faults.old).faults }
-        ensures place { faults.new.slots.ghost_name ≡ faults.old.slots.ghost_name }
+        ensures faults { faults.new ≡ (handled_at line.entry page.old self.old faults.old).faults }
     {
         let Err(fault) = read_line(line);
         let len = write_no(page, fault)?;

@@ -1,4 +1,3 @@
-mod Naming
 mod Obeying
 mod Replying
 mod Settling

@@ -36,6 +36,15 @@ module _ (x : Rack) (z : Sizes) (first : ℕ) where
   pub open_continues : (y : Rack) → y ≡ (open' x z first).rack → ((open' x z first).answer ≡ Ok tt → Reaches [] y) → Continues (opening (open' x z first).answer) x y
   open_continues y e r = by_opening (openable z first) y e r
 
+-- the same of an order that is known to be an opening, and of one that asks to show a column
+module _ {S : Type 0} (m : Meaning S) (x : Rack) (c : Contents Report) (s : S) (o : Order) where
+  pub opens_on : (z : Sizes) (first : ℕ) (y : Rack) → o ≡ order.Open z.rows z.columns z.places z.lead first → y ≡ (open' x z first).rack → ((open' x z first).answer ≡ Ok tt → Reaches [] y)
+      → Continues (called m x c s o).tells x y
+  opens_on z first y e r a = subst (λ p. Continues (called m x c s p).tells x y) (sym e) (open_continues x z first y r a)
+
+  pub shows_on : (column : ℕ) → o ≡ order.Show column → Continues (called m x c s o).tells x x
+  shows_on column e = subst (λ p. Continues (called m x c s p).tells x x) (sym e) (stays x)
+
 ok_err : {A E X : Type 0} (a : A) (e : E) → ◌≡◌ {A = Result A E} (Ok a) (Err e) → X
 ok_err a e k = let n : ◌≡◌ {A = ℕ} 0 1 = cc in let z : ⊥ = omega arith in absurd z
 
@@ -58,8 +67,7 @@ module _ {S : Type 0} (m : Meaning S) (x : Rack) (c : Contents Report) (s : S) w
 
   -- a refused order changes nothing, and tells nothing
   pub refused_order : (o : Order) (e : Refusal) → (called m x c s o).reply ≡ Err e → Unchanged (called m x c s o)
-  refused_order (order.Open rows columns places lead first) e k =
-      let z : Sizes = record { rows = rows; columns = columns; places = places; lead = lead } in
+  refused_order (order.Open z first) e k =
       let p = open_refused z first e (openable z first) (replied_err _ e (open' x z first).answer k) in
       record { rack = p.0; held = refl; journal = refl; tells = p.1 }
   refused_order (order.Book q) e k =

@@ -48,8 +48,8 @@ alone f g o c s = record { reply = replied f o.answer; rack = o.rack; held = s; 
 
 module _ {S : Type 0} (m : Meaning S) where
   abbrev pub called : Rack → Contents Report → S → Order → Called S
-  called x c s (order.Open rows columns places lead first) =
-      let o = open' x (record { rows = rows; columns = columns; places = places; lead = lead }) first in
+  called x c s (order.Open sizes first) =
+      let o = open' x sizes first in
       record { reply = replied (λ _. reply.Done) o.answer; rack = o.rack; held = s; journal = c; tells = opening o.answer }
   called x c s (order.Book q) = alone reply.Number (λ n. Event.taken n q) (book x q) c s
   called x c s (order.Step n) =

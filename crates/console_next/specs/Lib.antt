@@ -3,4 +3,3 @@ pub mod Calls
 pub mod Orders
 pub mod Replies
 pub mod Sessions
-pub mod Verbs

@@ -1,13 +1,12 @@
 -- What the handling of one line makes of page, board, chooser, journals and counters.
-use Rattle.std.specs.Prelude.{◌≡◌, ℕ, ◌+◌, ◌-◌, ◌^◌, min, cond, List, [], length, Some, None, Ok, Err, Option, Result, nat_lt}
+use Rattle.std.specs.Prelude.{◌≡◌, ℕ, cond, List, [], length, Some, None, Ok, Err, Option, Result, nat_lt}
 use Rattle.lists.specs.Contents.{Contents, cleared, pushed}
-use Rattle.lists.specs.Reading.{contents_of}
-use Rattle.lists.specs.declared.journal.Journal.{Journal}
 use Rattle.rules.specs.declared.refusal.Refusal.TheVariants as refusal
 use Rattle.rules.specs.declared.report.Report.{Report}
 use Rattle.rules.specs.Rack.{Rack}
 use Rattle.rules.specs.Choosers.{Meaning}
 use Rattle.board.specs.Face.{rack_in}
+use Rattle.text.specs.Counts.{counted}
 use Rattle.text.specs.declared.fault.Fault.{Fault}
 use Rattle.text.specs.declared.fault.LineFault.{LineFault}
 use Rattle.text.specs.Faults.{fault_of}
@@ -16,10 +15,6 @@ use Rattle.text.specs.Pages.{shortest, no_line, over}
 use Rattle.console_next.specs.declared.session.Session.{Session}
 use Rattle.console_next.specs.Calls.{Telling}
 use Rattle.console_next.specs.Answers.{Answered, refused_with, answered}
-
--- a count of one more, unless it is as large as it can be
-abbrev pub counted : ℕ → ℕ
-counted n = min (n + 1) (2 ^ 64 - 1)
 
 -- What a session works with: the rack of its board, what its chooser holds, the reports of the last line, the faults noted, how many
 -- lines were read, and how many of them were refused.
@@ -31,9 +26,9 @@ pub record Desk (S : Type 0) : Type 0 where
   pub lines : ℕ
   pub refusals : ℕ
 
-abbrev pub desk_of : {S : Type 0} → Session S → Journal Report → Journal LineFault → Desk S
+abbrev pub desk_of : {S : Type 0} → Session S → Contents Report → Contents LineFault → Desk S
 desk_of s reports faults =
-    record { rack = rack_in s.board; held = s.chooser; reports = contents_of reports; faults = contents_of faults; lines = s.lines; refusals = s.refusals }
+    record { rack = rack_in s.board; held = s.chooser; reports = reports; faults = faults; lines = s.lines; refusals = s.refusals }
 
 -- the desk after a line was answered, before it is counted
 abbrev pub desk_after : {S : Type 0} → Desk S → Answered S → Desk S

@@ -6,4 +6,5 @@ pub mod call;
 pub mod order;
 pub mod reply;
 pub mod session;
-pub mod verb;
+
+pub use text::verb;

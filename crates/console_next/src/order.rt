@@ -2,20 +2,18 @@
 ghost use Rattle.std.specs.Prelude.{◌≡◌};
 ghost use Rattle.console_next.specs.Orders.{order_for, order_of};
 
-use crate::verb::Verb;
+use rules::rack::Sizes;
 use rules::ticket::Request;
 use text::fault::Fault;
 use text::head::read_line;
 use text::token::MOST_FIGURES;
+use text::verb::Verb;
 
 /// A call of the board with its figures.
 #[derive(Clone, Copy, PartialEq, Eq, Debug)]
 pub enum Order {
     Open {
-        rows: u32,
-        columns: u32,
-        places: u32,
-        lead: u32,
+        sizes: Sizes,
         first: u32,
     },
     Book(Request),
@@ -37,10 +35,12 @@ impl Order {
     {
         match verb {
             Verb::Open => Order::Open {
-                rows: figures[0],
-                columns: figures[1],
-                places: figures[2],
-                lead: figures[3],
+                sizes: Sizes {
+                    rows: figures[0],
+                    columns: figures[1],
+                    places: figures[2],
+                    lead: figures[3],
+                },
                 first: figures[4],
             },
             Verb::Book => Order::Book(Request {

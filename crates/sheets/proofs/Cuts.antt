@@ -1,7 +1,9 @@
 -- Bytes cut into lines.
-use Rattle.std.proofs.Common.{◌≡◌, ℕ, ◌+◌, ◌<◌, ◌≤◌, Bool, true, false, cond, not, ◌&&◌, eqb, List, [], ◌∷◌, ◌++◌, length, get_or, take, drop, sym, refl, ap, ◌∙◌, arith}
-use Rattle.std.proofs.lemmas.List.{take_more, take-append-drop, at_drop_more, nil_from_length}
-use Rattle.std.proofs.lemmas.Bool.{and_parts, and_from, not-true, not_from_false, or_parts, ne_eqb, eqb-true}
+use Rattle.std.proofs.Common.{◌≡◌, ℕ, ◌+◌, ◌<◌, ◌≤◌, Bool, true, false, cond, not, ◌&&◌, eqb, List, [], ◌∷◌, ◌++◌, length, take, drop, Some, None, sym, refl, ap, ◌∙◌, arith}
+use Rattle.std.proofs.lemmas.List.{take_more, nil_from_length}
+use Rattle.std.proofs.lemmas.Bool.{and_parts, not-true, or_parts, eqb-true}
+use Rattle.std.specs.Prelude.{position}
+use Rattle.text.proofs.Placing.{Fails, parted, none_passes, first_at}
 use Rattle.text.specs.Frames.{lines_of, on_first}
 use Rattle.text.specs.Lines.{ends_once}
 use Rattle.text.specs.Fields.{tabbed, text_line, plain, all_plain}
@@ -11,9 +13,9 @@ abbrev pub unfed : List ℕ → Bool
 unfed [] = true
 unfed (b ∷ bs) = not (eqb b 10) && unfed bs
 
-unfed_push : (bs : List ℕ) (b : ℕ) → unfed bs ≡ true → (b ≡ 10 → ⊥) → unfed (bs ++ (b ∷ [])) ≡ true
-unfed_push [] b h n = and_from _ _ (not_from_false _ (ne_eqb b 10 n)) refl
-unfed_push (c ∷ bs) b h n = let p = and_parts _ _ h in and_from _ _ p.0 (unfed_push bs b p.1 n)
+unfed_from : (bs : List ℕ) → Fails (λ b. eqb b 10) bs → unfed bs ≡ true
+unfed_from [] h = refl
+unfed_from (b ∷ bs) h = simp (h.0, unfed_from bs h.1)
 
 -- such bytes before a line feed, or with nothing after them
 cut_feed : (bs rest : List ℕ) → unfed bs ≡ true → lines_of (bs ++ (10 ∷ rest)) ≡ (bs ++ (10 ∷ [])) ∷ lines_of rest
@@ -24,26 +26,24 @@ cut_end : (b : ℕ) (bs : List ℕ) → unfed (b ∷ bs) ≡ true → lines_of (
 cut_end b [] h = let p = and_parts _ _ h in let no : eqb b 10 ≡ false = not-true _ p.0 in simp no
 cut_end b (c ∷ bs) h = let p = and_parts _ _ h in let no : eqb b 10 ≡ false = not-true _ p.0 in simp (no, cut_end c bs p.1)
 
-pub last_line : (bytes : List ℕ) → 0 < length bytes → unfed bytes ≡ true → lines_of bytes ≡ bytes ∷ []
+last_line : (bytes : List ℕ) → 0 < length bytes → unfed bytes ≡ true → lines_of bytes ≡ bytes ∷ []
 last_line [] l h = let z : ⊥ = omega arith in elim z [ ]
 last_line (b ∷ bs) l h = cut_end b bs h
 
-module _ (bytes : List ℕ) (i : ℕ) (l : i < length bytes) (h : unfed (take i bytes) ≡ true) where
-  parted : bytes ≡ take i bytes ++ (get_or bytes i 0 ∷ drop (i + 1) bytes)
-  parted = sym (take-append-drop i bytes) ∙ ap (λ xs. take i bytes ++ xs) (at_drop_more (λ xs. xs) bytes i 0 l)
+-- where a line feed is found, or none
+module _ (bytes : List ℕ) where
+  pub no_feed : 0 < length bytes → position (λ b. eqb b 10) bytes ≡ None → lines_of bytes ≡ bytes ∷ []
+  no_feed l e = last_line bytes l (unfed_from bytes (none_passes (λ b. eqb b 10) bytes e))
 
-  -- the line feed at this place
-  pub feed_at : get_or bytes i 0 ≡ 10 → lines_of bytes ≡ take (i + 1) bytes ∷ lines_of (drop (i + 1) bytes)
-  feed_at e =
-      ap lines_of parted
-      ∙ ap (λ b. lines_of (take i bytes ++ (b ∷ drop (i + 1) bytes))) e
-      ∙ cut_feed (take i bytes) (drop (i + 1) bytes) h
-      ∙ ap (λ b. (take i bytes ++ (b ∷ [])) ∷ lines_of (drop (i + 1) bytes)) (sym e)
-      ∙ ap (λ xs. xs ∷ lines_of (drop (i + 1) bytes)) (sym (take_more bytes i 0 l))
-
-  -- another byte there
-  pub unfed_more : (get_or bytes i 0 ≡ 10 → ⊥) → unfed (take (i + 1) bytes) ≡ true
-  unfed_more n = ap unfed (take_more bytes i 0 l) ∙ unfed_push (take i bytes) (get_or bytes i 0) h n
+  pub feed_at : (i : ℕ) → position (λ b. eqb b 10) bytes ≡ Some i → lines_of bytes ≡ take (i + 1) bytes ∷ lines_of (drop (i + 1) bytes)
+  feed_at i e =
+      let f = first_at (λ b. eqb b 10) bytes i e in
+      let is = eqb-true _ _ f.passes in
+      ap lines_of (parted bytes i f.inside)
+      ∙ ap (λ b. lines_of (take i bytes ++ (b ∷ drop (i + 1) bytes))) is
+      ∙ cut_feed (take i bytes) (drop (i + 1) bytes) (unfed_from (take i bytes) f.before)
+      ∙ ap (λ b. (take i bytes ++ (b ∷ [])) ∷ lines_of (drop (i + 1) bytes)) (sym is)
+      ∙ ap (λ xs. xs ∷ lines_of (drop (i + 1) bytes)) (sym (take_more bytes i 0 f.inside))
 
 onto_few : (b : ℕ) (ls : List (List ℕ)) (n : ℕ) → length ls ≤ n → length (on_first b ls) ≤ n + 1
 onto_few b [] n h = omega arith

@@ -1,12 +1,12 @@
 -- Lines read one after another.
-use Rattle.std.proofs.Common.{◌≡◌, ℕ, suc, ◌+◌, ◌<◌, ◌≤◌, true, false, ltb, List, [], ◌∷◌, ◌++◌, length, take, drop, set, Ok, Err, Result, sym, refl, ap, ◌∙◌, append_assoc, arith}
-use Rattle.std.proofs.lemmas.List.{length-append, length_push, append-nil, take-append-drop, drop-set-lt, drop-drop, nil_from_length}
+use Rattle.std.proofs.Common.{◌≡◌, ℕ, suc, ◌+◌, ◌<◌, ◌≤◌, true, false, ltb, List, [], ◌∷◌, ◌++◌, length, drop, set, Ok, Err, Result, sym, refl, ap, ◌∙◌, append_assoc, arith}
+use Rattle.std.proofs.lemmas.List.{length_push, append-nil}
 use Rattle.std.proofs.lemmas.Bool.{le-ltb, lt-ltb}
 use Rattle.text.specs.declared.fault.LineFault.{LineFault}
 use Rattle.text.specs.Frames.{lines_of}
 use Rattle.text.proofs.Filling.{onward, onward_none}
 use Rattle.sheets.specs.declared.grant.GrantLine.{GrantLine}
-use Rattle.sheets.specs.Sheets.{grant_read, numbered, onto, and_then, lines_read, sheet_read, counted, Room, refused, taken, no_room, into_list}
+use Rattle.sheets.specs.Sheets.{grant_read, numbered, onto, and_then, lines_read, sheet_read, counted, laid, Lays, refused, taken, no_room, into_list}
 
 onward_onto : (gs : List GrantLine) (g : GrantLine) (r : Result (List GrantLine) LineFault) → onward gs (onto g r) ≡ onward (gs ++ (g ∷ [])) r
 onward_onto gs g (Err f) = refl
@@ -47,38 +47,10 @@ module _ {sheet : List ℕ} {gs : List GrantLine} {n last : ℕ} {rest : List �
         ∙ ap (λ r. onward gs (and_then r (λ k. lines_read (suc (n + 1)) k.number (lines_of after)))) h
 
   -- no line is left
-  pub underway_all : length rest ≡ 0 → sheet_read sheet ≡ Ok gs
-  underway_all h =
-      sym u.onwards ∙ ap (λ bs. onward gs (lines_read (n + 1) last (lines_of bs))) (nil_from_length rest h) ∙ ap Ok (append-nil gs)
-
-  -- no more were read than there are
-  pub underway_few : (all : List GrantLine) → sheet_read sheet ≡ Ok all → length gs ≤ length all
-  underway_few all h = by (lines_read (n + 1) last (lines_of rest)) (u.onwards ∙ h)
-    where
-      by : (r : Result (List GrantLine) LineFault) → onward gs r ≡ Ok all → length gs ≤ length all
-      by (Err f) p = let z : ◌≡◌ {A = ℕ} 0 1 = cc in absurd (omega arith)
-      by (Ok more) p = let q : gs ++ more ≡ all = cc in omega (arith, sym (length-append gs more) ∙ ap length q)
-
--- what a reading comes to, by its count
-pub counted_err : (r : Result (List GrantLine) LineFault) (f : LineFault) → counted r ≡ Err f → r ≡ Err f
-counted_err (Err e) f h = h' h
-  where
-    h' : ◌≡◌ {A = Result ℕ LineFault} (Err e) (Err f) → ◌≡◌ {A = Result (List GrantLine) LineFault} (Err e) (Err f)
-    h' p = let q : e ≡ f = cc in ap Err q
-counted_err (Ok gs) f h = let z : ◌≡◌ {A = ℕ} 0 1 = cc in absurd (omega arith)
-
-pub counted_ok : (r : Result (List GrantLine) LineFault) (n : ℕ) → counted r ≡ Ok n → (gs : List GrantLine) × (r ≡ Ok gs) × (n ≡ length gs)
-counted_ok (Err f) n h = let z : ◌≡◌ {A = ℕ} 0 1 = cc in absurd (omega arith)
-counted_ok (Ok gs) n h = (gs, refl, (cc))
-
-pub room_parts : (r : Result (List GrantLine) LineFault) (places : List GrantLine) → Room r places → (all : List GrantLine) × (r ≡ Ok all) × (length all ≤ length places)
-room_parts (Err f) places h = absurd h
-room_parts (Ok gs) places h = (gs, refl, h)
+  pub underway_all : lines_of rest ≡ [] → sheet_read sheet ≡ Ok gs
+  underway_all h = sym u.onwards ∙ ap (λ ls. onward gs (lines_read (n + 1) last ls)) h ∙ ap Ok (append-nil gs)
 
 -- the outcomes of a reading
-pub outcome_fault : (r : Result (List GrantLine) LineFault) (f : LineFault) (places : List GrantLine) → r ≡ Err f → into_list r places ≡ refused f places
-outcome_fault r f places e = ap (λ q. into_list q places) e
-
 module _ (r : Result (List GrantLine) LineFault) (gs places : List GrantLine) (e : r ≡ Ok gs) where
   pub outcome_short : length places < length gs → into_list r places ≡ refused no_room places
   outcome_short h = let t : ltb (length places) (length gs) ≡ true = lt-ltb _ _ h in ap (λ q. into_list q places) e ∙ rw t refl
@@ -86,14 +58,23 @@ module _ (r : Result (List GrantLine) LineFault) (gs places : List GrantLine) (e
   pub outcome_taken : length gs ≤ length places → into_list r places ≡ taken gs places
   outcome_taken h = let t : ltb (length places) (length gs) ≡ false = le-ltb _ _ h in ap (λ q. into_list q places) e ∙ rw t refl
 
--- one place more is filled
-pub past_more : (list places : List GrantLine) (i : ℕ) (g : GrantLine) → drop i list ≡ drop i places → drop (i + 1) (set list i g) ≡ drop (i + 1) places
-past_more list places i g e =
-    drop-set-lt (i + 1) list i g (omega arith) ∙ sym (drop-drop 1 i list) ∙ ap (drop 1) e ∙ drop-drop 1 i places
+-- one more grant over the places
+pub laid_push : (gs : List GrantLine) (g : GrantLine) (places : List GrantLine) → laid (gs ++ (g ∷ [])) places ≡ set (laid gs places) (length gs) g
+laid_push [] g [] = refl
+laid_push [] g (p ∷ places) = refl
+laid_push (x ∷ gs) g [] = refl
+laid_push (x ∷ gs) g (p ∷ places) = ap (λ ps. x ∷ ps) (laid_push gs g places)
 
--- all grants stand in the list
-pub filled_all : (list places : List GrantLine) (n : ℕ) → length (take n list) ≡ n → drop n list ≡ drop n places → list ≡ (taken (take n list) places).list
-filled_all list places n k e =
-    sym (take-append-drop n list)
-    ∙ ap (λ xs. take n list ++ xs) e
-    ∙ ap (λ m. take n list ++ drop m places) (sym k)
+-- all of them, where there are places for all
+pub laid_taken : (gs places : List GrantLine) → length gs ≤ length places → laid gs places ≡ gs ++ drop (length gs) places
+laid_taken [] places h = refl
+laid_taken (g ∷ gs) [] h = absurd (omega arith)
+laid_taken (g ∷ gs) (p ∷ places) h = ap (λ ps. g ∷ ps) (laid_taken gs places (omega arith))
+
+-- so they are the list that a reading leaves
+pub lays_list : (r : Result (List GrantLine) LineFault) (places list : List GrantLine) (n : ℕ) → counted r ≡ Ok n → n ≤ length places → Lays r places list → list ≡ (into_list r places).list
+lays_list (Err f) places list n e h l = cc
+lays_list (Ok gs) places list n e h l =
+    let many : length gs ≡ n = cc in
+    let fits : length gs ≤ length places = omega arith in
+    l ∙ laid_taken gs places fits ∙ sym (ap (λ o. o.list) (outcome_taken (Ok gs) gs places refl fits))

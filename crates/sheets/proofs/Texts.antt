@@ -1,5 +1,7 @@
 -- The text of a sheet, ticket by ticket.
 use Rattle.std.proofs.Common.{◌≡◌, ℕ, ◌+◌, ◌<◌, ◌≤◌, Bool, true, false, cond, ltb, List, [], ◌∷◌, ◌++◌, length, get_or, take, drop, Some, None, Ok, Err, decimal, Option, sym, refl, ap, ◌∙◌, subst, append_assoc, arith}
+use Rattle.std.specs.List.{filter_map, cons_option, sum_by}
+use Rattle.std.proofs.lemmas.List.Sums.{sum_by-cons}
 use Rattle.std.proofs.lemmas.List.{length-append, append-nil, at_drop_more, at_drop_all}
 use Rattle.std.proofs.lemmas.Bool.{le-ltb, lt-ltb}
 use Rattle.rules.specs.declared.ticket.Ticket.{Ticket}
@@ -8,7 +10,7 @@ use Rattle.text.specs.Faults.{fault_of}
 use Rattle.text.specs.Pages.{Puts}
 use Rattle.text.proofs.Paging.{puts_then, puts_page}
 use Rattle.sheets.specs.declared.grant.GrantLine.{GrantLine}
-use Rattle.sheets.specs.Grants.{is_out, grant_of, grant_told, out_among, grant_text, sheet_text, sheet_answer, page_after}
+use Rattle.sheets.specs.Grants.{is_out, grant_of, grant_told, out_among, grant_text, sheet_text, sheet_long, sheet_answer, page_after}
 
 -- how long the line of a grant is
 pub grant_long : (g : GrantLine) → length (grant_text g) ≡ 9 + length (decimal g.number) + length (decimal g.span.first) + length (decimal g.span.length)
@@ -26,6 +28,19 @@ sheet_more t ts = by (is_out t.phase)
     by true = refl
     by false = refl
 
+-- how long the sheet is
+pub sheet_sum : (ts : List Ticket) → sheet_long ts ≡ length (sheet_text (out_among ts))
+sheet_sum [] = refl
+sheet_sum (t ∷ ts) = by (is_out t.phase) (sheet_sum ts)
+  where
+    by : (b : Bool) → sheet_long ts ≡ length (sheet_text (out_among ts))
+        → sum_by (λ g. length (grant_text g)) (cons_option (cond b (Some (grant_of t)) None) (filter_map grant_told ts)) ≡ length (sheet_text (cond b (grant_of t ∷ out_among ts) (out_among ts)))
+    by true e =
+        sum_by-cons (λ g. length (grant_text g)) (grant_of t) (filter_map grant_told ts)
+        ∙ ap (λ n. length (grant_text (grant_of t)) + n) e
+        ∙ sym (length-append (grant_text (grant_of t)) (sheet_text (out_among ts)))
+    by false e = e
+
 module _ (ts : List Ticket) (i : ℕ) (l : i < length ts) (d : Ticket) {told : Option GrantLine} (e : told ≡ grant_told (get_or ts i d)) where
   -- what is written from this ticket on
   told_at : sheet_text (out_among (drop i ts)) ≡ told_text told ++ sheet_text (out_among (drop (i + 1) ts))
@@ -34,7 +49,7 @@ module _ (ts : List Ticket) (i : ℕ) (l : i < length ts) (d : Ticket) {told : O
       ∙ sheet_more (get_or ts i d) (drop (i + 1) ts)
       ∙ ap (λ o. told_text o ++ sheet_text (out_among (drop (i + 1) ts))) (sym e)
 
-  pub told_long : length (sheet_text (out_among (drop i ts))) ≡ length (told_text told) + length (sheet_text (out_among (drop (i + 1) ts)))
+  told_long : length (sheet_text (out_among (drop i ts))) ≡ length (told_text told) + length (sheet_text (out_among (drop (i + 1) ts)))
   told_long = ap length told_at ∙ length-append (told_text told) _
 
   -- there is room for it, as there is for the sheet

@@ -1,7 +1,8 @@
 -- What is written of a board reads as its grants.
-use Rattle.std.proofs.Common.{◌≡◌, ℕ, suc, ◌+◌, ◌^◌, ◌<◌, ◌≤◌, Bool, true, false, cond, List, [], ◌∷◌, length, Ok, Err, codes, decimal, Result, refl, ap, ◌∙◌, arith}
+use Rattle.std.proofs.Common.{◌≡◌, ℕ, suc, ◌+◌, ◌*◌, ◌^◌, ◌<◌, ◌≤◌, Bool, true, false, cond, List, [], ◌∷◌, length, Ok, Err, codes, decimal, Result, refl, ap, ◌∙◌, arith}
 use Rattle.std.specs.List.{AllByRecursion}
 use Rattle.std.proofs.lemmas.Fmt.{length-decimal-le}
+use Rattle.std.proofs.lemmas.List.{length-append}
 use Rattle.std.proofs.lemmas.Bool.{and_from, le-leb, cond-true}
 use Rattle.std.proofs.lemmas.Bool.Decides.{nat_tests}
 use Rattle.rules.specs.declared.refusal.Refusal.TheVariants as refusal
@@ -100,6 +101,10 @@ lines_back (g ∷ gs) n last h =
     ∙ ap (λ r. and_then (numbered n r) (λ k. lines_read (suc n) k.number (lines_of (sheet_text gs)))) (grant_back last g h.0)
     ∙ ap (onto g) (lines_back gs (suc n) g.number h.1)
 
+lawful_short : (gs : List GrantLine) (last : ℕ) → Lawful last gs → length (sheet_text gs) ≤ 80 * length gs
+lawful_short [] last h = omega arith
+lawful_short (g ∷ gs) last h = omega (arith, length-append (grant_text g) (sheet_text gs), short last g h.0, lawful_short gs g.number h.1)
+
 reads_back : (gs : List GrantLine) → Lawful 0 gs → ReadsBack (sheet_text gs) gs
 reads_back gs h =
     let all = lines_back gs 1 0 h in
@@ -133,10 +138,30 @@ module _ (z : Sizes) (handbacks hi : ℕ) (wide : z.columns ≤ 256) (top : hi �
           (record { above = omega arith; most = omega arith; some = fit.some; few = fit.most; inside = omega arith }, p)
       by false e p q = q
 
--- what is written of a rack that some calls have led to reads as its grants
-pub rack_back : (x : Rack) → Reached x → ReadsBack (sheet_text (grants_out x)) (grants_out x)
-rack_back x r =
-    let s = reached_sound x r in
-    let wide = (limits x.sizes x.first s.limits).columns.1 in
-    reads_back (grants_out x)
-    (out_lawful x.sizes x.handbacks x.next wide (omega (arith, s.numbers)) x.first 0 x.tickets (omega (arith, s.first_some)) s.rising s.fits)
+few_out : (ts : List Ticket) → length (out_among ts) ≤ length ts
+few_out [] = omega arith
+few_out (t ∷ ts) = by (is_out t.phase) (few_out ts)
+  where
+    by : (b : Bool) → length (out_among ts) ≤ length ts → length (cond b (grant_of t ∷ out_among ts) (out_among ts)) ≤ length (t ∷ ts)
+    by true h = omega arith
+    by false h = omega arith
+
+-- the grants of a rack that some calls have led to
+module _ (x : Rack) (r : Reached x) where
+  rack_lawful : Lawful 0 (grants_out x)
+  rack_lawful =
+      let s = reached_sound x r in
+      let wide = (limits x.sizes x.first s.limits).columns.1 in
+      out_lawful x.sizes x.handbacks x.next wide (omega (arith, s.numbers)) x.first 0 x.tickets (omega (arith, s.first_some)) s.rising s.fits
+
+  -- what is written of it reads as its grants
+  pub rack_back : ReadsBack (sheet_text (grants_out x)) (grants_out x)
+  rack_back = reads_back (grants_out x) rack_lawful
+
+  -- and is not long
+  pub rack_short : length (sheet_text (grants_out x)) ≤ 5120
+  rack_short =
+      let s = reached_sound x r in
+      let places = (limits x.sizes x.first s.limits).places.1 in
+      let few = s.few in
+      omega (arith, lawful_short (grants_out x) 0 rack_lawful, few_out x.tickets)

@@ -1,5 +1,5 @@
 -- The grants of a rack, and the sheet that is written of them.
-use Rattle.std.specs.Prelude.{ℕ, Bool, true, false, cond, List, [], ◌∷◌, ◌++◌, length, Some, None, Ok, Err, codes, decimal, Option, Result, nat_lt}
+use Rattle.std.specs.Prelude.{ℕ, Bool, true, false, cond, List, [], ◌∷◌, ◌++◌, sum_by, filter_map, length, Some, None, Ok, Err, codes, decimal, Option, Result, nat_lt}
 use Rattle.rules.specs.declared.refusal.Refusal.TheVariants as refusal
 use Rattle.rules.specs.declared.ticket.Ticket.{Ticket}
 use Rattle.rules.specs.declared.ticket.Phase.{Phase}
@@ -43,6 +43,10 @@ grant_text g = text_line (codes "grant") (decimal g.number ∷ decimal g.span.fi
 abbrev pub sheet_text : List GrantLine → List ℕ
 sheet_text [] = []
 sheet_text (g ∷ gs) = grant_text g ++ sheet_text gs
+
+-- how long the lines of the tickets that are out are together
+abbrev pub sheet_long : List Ticket → ℕ
+sheet_long ts = sum_by (λ g. length (grant_text g)) (filter_map grant_told ts)
 
 -- The answer of a call that writes a sheet on a page: how many bytes it wrote, or that the page is shorter than the sheet.
 abbrev pub sheet_answer : List ℕ → List ℕ → Result ℕ Fault

@@ -73,10 +73,16 @@ abbrev pub counted : Result (List GrantLine) LineFault → Result ℕ LineFault
 counted (Err f) = Err f
 counted (Ok gs) = Ok (length gs)
 
--- a reading has no fault, and the list has room for its grants
-abbrev pub Room : Result (List GrantLine) LineFault → List GrantLine → Type 0
-Room (Err f) places = ⊥
-Room (Ok gs) places = length gs ≤ length places
+-- grants over the places of a list, from the first on, as far as there are places
+abbrev pub laid : List GrantLine → List GrantLine → List GrantLine
+laid [] places = places
+laid (g ∷ gs) [] = []
+laid (g ∷ gs) (place ∷ places) = g ∷ laid gs places
+
+-- the list that a reading without fault leaves
+abbrev pub Lays : Result (List GrantLine) LineFault → List GrantLine → List GrantLine → Type 0
+Lays (Err f) places list = Unit {0}
+Lays (Ok gs) places list = list ≡ laid gs places
 
 -- what a call that reads a sheet answers, and the list that it leaves
 pub record Outcome : Type 0 where

@@ -1,22 +1,14 @@
 //! Reading a sheet into a list.
-ghost use Rattle.std.specs.Prelude.{◌≡◌};
-ghost use Rattle.sheets.specs.Sheets.{in_limits, grant_read, numbered, sheet_read, counted, Room, read_into, OneSheetForGrants};
+ghost use Rattle.std.specs.Prelude.{◌≡◌, slice_set};
+ghost use Rattle.sheets.specs.Sheets.{in_limits, grant_read, numbered, sheet_read, counted, Lays, read_into, OneSheetForGrants};
 
 use crate::grant::{GrantLine, GrantWord};
-use crate::lines::next_line;
+use crate::lines::Lines;
+use rules::rack::{LAST_NUMBER, LONGEST, MOST_COLUMNS};
 use rules::refusal::Refusal;
 use rules::span::Span;
 use text::fault::{Fault, LineFault};
 use text::head::read_line;
-
-/// The largest number of a booking.
-const LAST_NUMBER: u32 = 2_000_000_000;
-
-/// The most columns that a grant can have.
-const LONGEST_SPAN: u32 = 64;
-
-/// The most columns that a board can have.
-const MOST_COLUMNS: u32 = 256;
 
 /// The grant again, if it is within the limits, after a line with the number `last`.
 fn check_grant(grant: GrantLine, last: u32) -> Result<GrantLine, Fault>
@@ -25,7 +17,7 @@ fn check_grant(grant: GrantLine, last: u32) -> Result<GrantLine, Fault>
     if grant.number <= last || grant.number > LAST_NUMBER {
         return Err(Fault::new(Refusal::Grant, 2, 0));
     }
-    if grant.span.length < 1 || grant.span.length > LONGEST_SPAN {
+    if grant.span.length < 1 || grant.span.length > LONGEST {
         return Err(Fault::new(Refusal::Grant, 4, 0));
     }
     if grant.span.first > MOST_COLUMNS - grant.span.length {
@@ -46,56 +38,40 @@ fn read_grant(line: &[u8], last: u32) -> Result<GrantLine, Fault>
             length: figures[2],
         },
     };
-    let checked = check_grant(grant, last)?;
-    Ok(checked)
+    check_grant(grant, last)
 }
 
 /// Reads a line, whose number its fault tells.
 fn read_numbered(line: &[u8], number: u64, last: u32) -> Result<GrantLine, LineFault>
     ensures { result ≡ numbered number (grant_read last line.now) }
 {
-    match read_grant(line, last) {
-        Ok(grant) => Ok(grant),
-        Err(fault) => Err(LineFault {
-            line: number,
-            fault,
-        }),
+    read_grant(line, last).map_err(|fault| LineFault {
+        line: number,
+        fault,
+    })
+}
+
+/// Puts a grant in its place, if the list has it.
+fn place(list: &mut [GrantLine], i: usize, grant: GrantLine)
+    ensures { list.new ≡ slice_set list.old i grant }
+{
+    if i < list.len() {
+        list[i] = grant;
     }
 }
 
-/// Reads every line, and answers how many grants there are.
-fn count_grants(sheet: &[u8]) -> Result<usize, LineFault>
-    ensures { result ≡ counted (sheet_read sheet.now) }
+/// Reads every line, puts the grants in their places as far as the list has them, and answers how many grants there are.
+fn scan(sheet: &[u8], list: &mut [GrantLine]) -> Result<usize, LineFault>
+    ensures answer { result ≡ counted (sheet_read sheet.now) }
+    ensures list { Lays (sheet_read sheet.now) list.old list.new }
 {
-    let mut rest = sheet;
     let mut count = 0;
     let mut last = 0;
-    while !rest.is_empty() {
-        let (line, after) = next_line(rest);
-        let grant = read_numbered(line, count as u64 + 1, last)?;
+    for (i, line) in (Lines { rest: sheet }).enumerate() {
+        let grant = read_numbered(line, i as u64 + 1, last)?;
+        place(list, i, grant);
         last = grant.number;
-        rest = after;
-        count += 1;
-    }
-    Ok(count)
-}
-
-/// Puts the grants of a sheet without fault into the list, which has room for them, and answers how many they are.
-fn fill(sheet: &[u8], list: &mut [GrantLine]) -> Result<usize, LineFault>
-    requires { Room (sheet_read sheet.now) list.old }
-    ensures answer { result ≡ (read_into sheet.now list.old).answer }
-    ensures list { list.new ≡ (read_into sheet.now list.old).list }
-{
-    let mut rest = sheet;
-    let mut count = 0;
-    let mut last = 0;
-    while !rest.is_empty() {
-        let (line, after) = next_line(rest);
-        let grant = read_numbered(line, count as u64 + 1, last)?;
-        list[count] = grant;
-        last = grant.number;
-        rest = after;
-        count += 1;
+        count = i + 1;
     }
     Ok(count)
 }
@@ -107,13 +83,12 @@ pub fn read_sheet(sheet: &[u8], list: &mut [GrantLine]) -> Result<usize, LineFau
     ensures list { list.new ≡ (read_into sheet.now list.old).list }
     ensures one_sheet { OneSheetForGrants }
 {
-    let count = count_grants(sheet)?;
+    let count = scan(sheet, &mut [])?;
     if list.len() < count {
         return Err(LineFault {
             line: 0,
-            fault: Fault::new(Refusal::Full, 0, 0),
+            fault: Refusal::Full.into(),
         });
     }
-    let filled = fill(sheet, list)?;
-    Ok(filled)
+    scan(sheet, list)
 }

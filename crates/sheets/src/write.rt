@@ -1,12 +1,13 @@
 //! Writing a sheet on a page.
-ghost use Rattle.std.specs.Prelude.{◌≡◌, ◌+◌, ◌*◌, ◌≤◌, length, decimal};
+ghost use Rattle.std.specs.Prelude.{◌≡◌, ◌+◌, ◌^◌, ◌<◌, ◌≤◌, length, decimal};
 ghost use Rattle.text.specs.Pages.{Puts};
 ghost use Rattle.board.specs.Face.{rack_in};
-ghost use Rattle.sheets.specs.Grants.{grant_told, grant_text, out_among, grants_out, sheet_text, sheet_answer, page_after};
+ghost use Rattle.sheets.specs.Grants.{grant_told, grant_text, out_among, sheet_long, grants_out, sheet_text, sheet_answer, page_after};
 ghost use Rattle.sheets.specs.Sheets.{ReadsBack};
 
 use crate::grant::GrantLine;
 use board::board::Board;
+use itoa::Buffer;
 use rules::refusal::Refusal;
 use rules::span::Span;
 use rules::ticket::{Phase, Ticket};
@@ -17,16 +18,12 @@ use text::page::{Field, put_line};
 fn grant_of(ticket: Ticket) -> Option<GrantLine>
     ensures { result ≡ grant_told ticket }
 {
-    match ticket.phase {
-        Phase::Out => Some(GrantLine {
-            number: ticket.number,
-            span: Span {
-                first: ticket.first,
-                length: ticket.request.length,
-            },
-        }),
-        _ => None,
-    }
+    let span = Span {
+        first: ticket.first,
+        length: ticket.request.length,
+    };
+    let number = ticket.number;
+    matches!(ticket.phase, Phase::Out).then_some(GrantLine { number, span })
 }
 
 /// How many digits a figure has.
@@ -34,10 +31,8 @@ fn width(n: u32) -> usize
     ensures is { result ≡ length (decimal n) }
     ensures few { result ≤ 10 }
 {
-    if n < 10 {
-        return 1;
-    }
-    width(n / 10) + 1
+    let mut digits = Buffer::new();
+    digits.format(n).len()
 }
 
 /// What a line has beside its figures: the word, three tabs and the line feed.
@@ -45,24 +40,22 @@ const FRAME: usize = 9;
 
 /// How long the line of a grant is.
 fn line_len(grant: GrantLine) -> usize
-    ensures is { result ≡ length (grant_text grant) }
-    ensures few { result ≤ 39 }
+    ensures { result ≡ length (grant_text grant) }
 {
     FRAME + width(grant.number) + width(grant.span.first) + width(grant.span.length)
 }
 
 /// How long the sheet is.
 fn sheet_len(tickets: &[Ticket]) -> usize
-    requires { length tickets.now ≤ 64 }
-    ensures { result ≡ length (sheet_text (out_among tickets.now)) }
+    requires { sheet_long tickets.now < 2 ^ 64 }
+    ensures { result ≡ sheet_long tickets.now }
 {
-    let mut len = 0;
-    for ticket in tickets {
-        if let Some(grant) = grant_of(*ticket) {
-            len += line_len(grant);
-        }
-    }
-    len
+    tickets
+        .iter()
+        .copied()
+        .filter_map(grant_of)
+        .map(line_len)
+        .sum()
 }
 
 /// Writes the line of a grant, and answers the place after it.
@@ -72,9 +65,9 @@ fn put_grant(page: &mut [u8], at: usize, grant: GrantLine) -> usize
 {
     let fields = [
         Field::Word(b"grant"),
-        Field::Figure(u64::from(grant.number)),
-        Field::Figure(u64::from(grant.span.first)),
-        Field::Figure(u64::from(grant.span.length)),
+        grant.number.into(),
+        grant.span.first.into(),
+        grant.span.length.into(),
     ];
     put_line(page, at, &fields)
 }
@@ -102,7 +95,7 @@ pub fn write_sheet(board: &Board, page: &mut [u8]) -> Result<usize, Fault>
 {
     let tickets = board.tickets();
     if page.len() < sheet_len(tickets) {
-        return Err(Fault::new(Refusal::Page, 0, 0));
+        return Err(Refusal::Page.into());
     }
     Ok(put_sheet(page, tickets))
 }

@@ -1,9 +1,10 @@
 -- A line cut into fields, and made of them again.
-use Rattle.std.proofs.Common.{◌≡◌, ℕ, ◌+◌, ◌<◌, ◌≤◌, Bool, true, false, cond, eqb, List, [], ◌∷◌, ◌++◌, length, get_or, take, drop, Some, None, sym, refl, ap, ◌∙◌, arith}
-use Rattle.std.proofs.lemmas.List.{take_more, take-append-drop, at_drop_more, append-nil}
-use Rattle.std.proofs.lemmas.Bool.{and_parts, and_from, or_parts, or_from, not-true, not_from_false, ne_eqb, eqb-true}
+use Rattle.std.proofs.Common.{◌≡◌, ℕ, ◌+◌, ◌<◌, ◌≤◌, Bool, true, false, cond, ◌||◌, eqb, List, [], ◌∷◌, ◌++◌, length, get_or, take, drop, Some, None, sym, refl, ap, ◌∙◌, arith}
+use Rattle.std.proofs.lemmas.List.{append-nil}
+use Rattle.std.proofs.lemmas.Bool.{and_parts, or_parts, not-true, eqb-true}
 use Rattle.text.specs.Frames.{on_first}
 use Rattle.text.specs.Lines.{ends_once}
+use Rattle.text.proofs.Placing.{Fails, parted}
 use Rattle.text.specs.Fields.{first_field, after_field, fields_of, tabbed, text_line, line_of, plain, all_plain, FieldsAreTheLineCutAtTabs}
 
 -- the first byte of a plain field is no line feed and no tab, and the rest is plain
@@ -13,9 +14,10 @@ plain_parts b bs h =
     let no = or_parts _ _ (not-true _ both.0) in
     (no.0, no.1, both.1)
 
-pub plain_push : (bs : List ℕ) (b : ℕ) → plain bs ≡ true → (b ≡ 10 → ⊥) → (b ≡ 9 → ⊥) → plain (bs ++ (b ∷ [])) ≡ true
-plain_push [] b h n m = and_from _ _ (not_from_false _ (or_from _ _ (ne_eqb b 10 n) (ne_eqb b 9 m))) refl
-plain_push (c ∷ bs) b h n m = let p = and_parts _ _ h in and_from _ _ p.0 (plain_push bs b p.1 n m)
+-- bytes with no line feed and no tab among them
+pub plain_from : (bs : List ℕ) → Fails (λ b. eqb b 10 || eqb b 9) bs → plain bs ≡ true
+plain_from [] h = refl
+plain_from (b ∷ bs) h = simp (h.0, plain_from bs h.1)
 
 -- a plain field that ends at a tab, at the line feed, or with the bytes
 cut_tab : (field rest : List ℕ) → plain field ≡ true → fields_of (field ++ (9 ∷ rest)) ≡ field ∷ fields_of rest
@@ -44,10 +46,6 @@ pub plain_end : (field : List ℕ) → plain field ≡ true → (field ≡ first
 plain_end field h =
     let e = append-nil field in
     (sym (ap first_field (sym e) ∙ first_plain field [] h ∙ e), sym (ap after_field (sym e) ∙ after_plain field [] h))
-
--- the bytes before a place, the one there, and those after it
-parted : (bytes : List ℕ) (i : ℕ) → i < length bytes → bytes ≡ take i bytes ++ (get_or bytes i 0 ∷ drop (i + 1) bytes)
-parted bytes i l = sym (take-append-drop i bytes) ∙ ap (λ xs. take i bytes ++ xs) (at_drop_more (λ xs. xs) bytes i 0 l)
 
 module _ (bytes : List ℕ) (i : ℕ) (l : i < length bytes) (h : plain (take i bytes) ≡ true) where
   pub tab_at : get_or bytes i 0 ≡ 9 → fields_of bytes ≡ take i bytes ∷ fields_of (drop (i + 1) bytes)
@@ -82,9 +80,6 @@ module _ (bytes : List ℕ) (i : ℕ) (l : i < length bytes) (h : plain (take i 
 
   pub ends_at_feed : get_or bytes i 0 ≡ 10 → (first_field bytes ≡ take i bytes) × (after_field bytes ≡ None)
   ends_at_feed e = (first_at 10 e refl, after_at 10 e)
-
-  pub plain_more : (get_or bytes i 0 ≡ 10 → ⊥) → (get_or bytes i 0 ≡ 9 → ⊥) → plain (take (i + 1) bytes) ≡ true
-  plain_more n m = ap plain (take_more bytes i 0 l) ∙ plain_push (take i bytes) (get_or bytes i 0) h n m
 
 -- there is a first field
 pub some_field : (bytes : List ℕ) → (field : List ℕ) × (fields : List (List ℕ)) × (fields_of bytes ≡ field ∷ fields)

@@ -22,8 +22,8 @@ onward_fault : (ns : List ℕ) (f : Fault) (r : Result (List ℕ) Fault) → onw
 onward_fault ns f r = refl
 
 -- at the start
-pub fill_starts : (number : ℕ) (places : List ℕ) (fields : List (List ℕ)) → onward (take 0 places) (figures_from number (drop 0 places) fields) ≡ figures_from number places fields
-fill_starts number places fields = onward_none (figures_from number places fields)
+pub fill_starts : (places : List ℕ) (n : ℕ) (fields these : List (List ℕ)) → n ≡ 0 → fields ≡ these → onward (take n places) (figures_from (n + 2) (drop n places) fields) ≡ figures_from 2 places these
+fill_starts places n fields these e f = rw (e, f) (onward_none (figures_from 2 places these))
 
 module _ (places : List ℕ) (i number : ℕ) (l : i < length places) (field : List ℕ) (fields : List (List ℕ)) where
   -- a field that is a figure
@@ -54,3 +54,17 @@ fill_ends places i number = ap (onward (take i places)) (no_fields number (drop 
 pub fill_full : (places : List ℕ) (i number : ℕ) (fields : List (List ℕ)) → length places ≤ i → onward (take i places) (figures_from number (drop i places) fields) ≡ Ok places
 fill_full places i number fields l =
     at_drop_all (λ ps. onward (take i places) (figures_from number ps fields)) places i l ∙ ap Ok (append-nil (take i places) ∙ take_all i places l)
+
+-- the next field, at this place
+module _ (places : List ℕ) (n i : ℕ) (e : i ≡ n) (l : n < length places) (fields : List (List ℕ)) (field : List ℕ) (rest : List (List ℕ)) (g : fields ≡ field ∷ rest) where
+  pub next_is : (m v : ℕ) → m ≡ n + 1 → figure_in (token_of field (i + 2)) ≡ Ok v
+      → onward (take n places) (figures_from (n + 2) (drop n places) fields) ≡ onward (take m (set places i v)) (figures_from (m + 2) (drop m (set places i v)) rest)
+  next_is m v f h =
+      let p : n + 1 + 2 ≡ suc (n + 2) = omega arith in
+      let k : figure_in (token_of field (n + 2)) ≡ Ok v = ap (λ j. figure_in (token_of field (j + 2))) (sym e) ∙ h in
+      rw (f, e, p, g) (fill_more places n (n + 2) l field rest v k)
+
+  pub next_is_none : (f : Fault) → figure_in (token_of field (i + 2)) ≡ Err f → onward (take n places) (figures_from (n + 2) (drop n places) fields) ≡ Err f
+  next_is_none f h =
+      let k : figure_in (token_of field (n + 2)) ≡ Err f = ap (λ j. figure_in (token_of field (j + 2))) (sym e) ∙ h in
+      rw g (fill_stops places n (n + 2) l field rest f k)

@@ -1,44 +1,56 @@
--- What the framer keeps of a line, byte by byte.
-use Rattle.std.proofs.Common.{◌≡◌, ℕ, ◌+◌, ◌<◌, ◌≤◌, Bool, true, false, cond, eqb, leb, List, [], ◌∷◌, ◌++◌, map, length, get_or, take, drop, set, Some, None, fold, Option, sym, refl, ap, ◌∙◌, ⊎_elim, append_assoc, arith}
-use Rattle.std.proofs.lemmas.List.{take_more_set, length_push, length-take-le, at_drop_more, append-nil}
-use Rattle.std.proofs.lemmas.Bool.{le-leb, lt-leb, eq-eqb, ne_eqb, cond_both, cond-false, cases_lt, cases_Bool}
+-- What the framer keeps of a line, and where a line ends.
+use Rattle.std.proofs.Common.{◌≡◌, ℕ, ◌+◌, ◌-◌, ◌<◌, ◌≤◌, Bool, true, false, cond, eqb, leb, List, [], ◌∷◌, ◌++◌, map, length, take, drop, Some, None, fold, Option, sym, refl, ap, ◌∙◌, ⊎_elim, append_assoc, arith}
+use Rattle.std.specs.Prelude.{position}
 use Rattle.std.specs.List.{flat_map}
-use Rattle.text.specs.declared.frame.Framer.{Framer}
-use Rattle.text.specs.Frames.{longest, held, more, is_new, up_to_feed, after_feed, kept, lines_of, handed, holding, handed_on, holding_on, handed_out, Frames, Whole, on_first}
+use Rattle.std.proofs.lemmas.List.{take_more, length_push, length-append, length-drop, append-nil}
+use Rattle.std.proofs.lemmas.Bool.{le-leb, lt-leb, ne_eqb, eqb-true, cond_both, cond-false, cases_lt, cases_Bool}
+use Rattle.std.proofs.lemmas.Bool.Decides.{nat_tests}
+use Rattle.text.specs.Frames.{longest, more, is_new, up_to_feed, after_feed, kept, lines_of, handed, holding, handed_on, holding_on, handed_out, Frames, Whole, on_first}
+use Rattle.text.specs.Lines.{ends_once}
+use Rattle.text.proofs.Placing.{parted, Fails, fails_push, none_passes, first_at}
 
--- a byte for which there is room
-pub push_kept : (f : Framer) (b : ℕ) → f.len < longest → length f.bytes ≡ longest → held (record { bytes = set f.bytes f.len b; len = f.len + 1 }) ≡ more (held f) b
-push_kept f b h l =
-    let fits : leb f.len 80 ≡ true = le-leb _ _ (omega arith) in
-    let still : leb (f.len + 1) 80 ≡ true = le-leb _ _ (omega arith) in
-    let text : take (f.len + 1) (set f.bytes f.len b) ≡ take f.len f.bytes ++ (b ∷ []) = take_more_set f.bytes f.len b (omega arith) in
-    let long : length (take f.len f.bytes ++ (b ∷ [])) ≡ f.len + 1 = length_push _ b ∙ ap (λ n. n + 1) (length-take-le f.len f.bytes (omega arith)) in
-    simp (fits, still, text, long)
+-- no line feed
+abbrev pub Plain : List ℕ → Type 0
+Plain = Fails (λ b. eqb b 10)
 
--- a byte for which there is none
-pub push_lost : (f : Framer) (b : ℕ) → longest ≤ f.len → length f.bytes ≡ longest → None ≡ more (held f) b
-push_lost f b h l = ⊎_elim over (λ k. full (omega arith)) (cases_lt 80 f.len)
-  where
-    over : 80 < f.len → None ≡ more (held f) b
-    over k = let no : leb f.len 80 ≡ false = lt-leb _ _ k in simp no
+-- bytes without a line feed belong to the line, and what is left comes after them
+module _ (rest : List ℕ) where
+  up_to_plain : (p : List ℕ) → Plain p → up_to_feed (p ++ rest) ≡ p ++ up_to_feed rest
+  up_to_plain [] h = refl
+  up_to_plain (b ∷ p) h = simp (h.0, up_to_plain p h.1)
 
-    full : f.len ≡ 80 → None ≡ more (held f) b
-    full e =
-        let long : length (take 80 f.bytes ++ (b ∷ [])) ≡ 81 = length_push _ b ∙ ap (λ n. n + 1) (length-take-le 80 f.bytes (omega arith)) in
-        simp (e, long)
+  after_plain : (p : List ℕ) → Plain p → after_feed (p ++ rest) ≡ after_feed rest
+  after_plain [] h = refl
+  after_plain (b ∷ p) h = simp (h.0, after_plain p h.1)
 
-module _ (h : Option (List ℕ)) (bs : List ℕ) (i : ℕ) (l : i < length bs) where
-  -- a byte that does not end the line
-  pub feed_on : (get_or bs i 0 ≡ 10 → ⊥) → (fold more h (up_to_feed (drop i bs)) ≡ fold more (more h (get_or bs i 0)) (up_to_feed (drop (i + 1) bs))) × (after_feed (drop i bs) ≡ after_feed (drop (i + 1) bs))
-  feed_on n =
-      let no : eqb (get_or bs i 0) 10 ≡ false = ne_eqb _ _ n in
-      (at_drop_more (λ xs. fold more h (up_to_feed xs)) bs i 0 l ∙ simp no, at_drop_more after_feed bs i 0 l ∙ simp no)
+  ends_plain : (p : List ℕ) → Plain p → ends_once (p ++ rest) ≡ ends_once rest
+  ends_plain [] h = refl
+  ends_plain (b ∷ p) h = simp (h.0, ends_plain p h.1)
 
-  -- the line feed
-  pub feed_ends : get_or bs i 0 ≡ 10 → (fold more h (up_to_feed (drop i bs)) ≡ more h (get_or bs i 0)) × (after_feed (drop i bs) ≡ Some (drop (i + 1) bs))
-  feed_ends e =
-      let yes : eqb (get_or bs i 0) 10 ≡ true = eq-eqb _ _ e in
-      (at_drop_more (λ xs. fold more h (up_to_feed xs)) bs i 0 l ∙ simp yes, at_drop_more after_feed bs i 0 l ∙ simp yes)
+-- where a line feed is found, or none
+module _ (bytes : List ℕ) where
+  pub no_feed : position (λ b. eqb b 10) bytes ≡ None → (up_to_feed bytes ≡ bytes) × (after_feed bytes ≡ None) × (ends_once bytes ≡ false)
+  no_feed e =
+      let h : Plain bytes = none_passes (λ b. eqb b 10) bytes e in
+      let n = append-nil bytes in
+      (ap up_to_feed (sym n) ∙ up_to_plain [] bytes h ∙ n, ap after_feed (sym n) ∙ after_plain [] bytes h, ap ends_once (sym n) ∙ ends_plain [] bytes h)
+
+  pub feed_at : (i : ℕ) → position (λ b. eqb b 10) bytes ≡ Some i
+      → (up_to_feed bytes ≡ take (i + 1) bytes) × (after_feed bytes ≡ Some (drop (i + 1) bytes)) × (ends_once bytes ≡ eqb (i + 1) (length bytes))
+  feed_at i e =
+      let f = first_at (λ b. eqb b 10) bytes i e in
+      let h : Plain (take i bytes) = f.before in
+      let is = eqb-true _ _ f.passes in
+      let rest = drop (i + 1) bytes in
+      let cut : bytes ≡ take i bytes ++ (10 ∷ rest) = parted bytes i f.inside ∙ ap (λ b. take i bytes ++ (b ∷ rest)) is in
+      let front : take (i + 1) bytes ≡ take i bytes ++ (10 ∷ []) = take_more bytes i 0 f.inside ∙ ap (λ b. take i bytes ++ (b ∷ [])) is in
+      let left : length rest ≡ length bytes - (i + 1) = length-drop (i + 1) bytes in
+      let inside = f.inside in
+      let same : eqb (length rest) 0 ≡ eqb (i + 1) (length bytes) = grind (arith, nat_tests) in (
+        ap up_to_feed cut ∙ up_to_plain (10 ∷ rest) (take i bytes) h ∙ sym front,
+        ap after_feed cut ∙ after_plain (10 ∷ rest) (take i bytes) h,
+        ap ends_once cut ∙ ends_plain (10 ∷ rest) (take i bytes) h ∙ same,
+      )
 
 -- a block is handed out up to its first line feed, and then on
 pub handed_cut : (h : Option (List ℕ)) (bs : List ℕ) → handed h bs ≡ handed_on (fold more h (up_to_feed bs)) (after_feed bs)
@@ -101,14 +113,31 @@ kept_more p b = ⊎_elim over (λ k. fits k) (cases_lt 80 (length p))
     fits : length p ≤ 80 → more (kept p) b ≡ kept (p ++ (b ∷ []))
     fits k = let yes : leb (length p) 80 ≡ true = le-leb _ _ k in simp yes
 
--- no line feed
-abbrev Plain : List ℕ → Type 0
-Plain [] = Unit {0}
-Plain (b ∷ bs) = (eqb b 10 ≡ false) × Plain bs
+-- more bytes of what is kept
+pub keeps : (p bs : List ℕ) → fold more (kept p) bs ≡ kept (p ++ bs)
+keeps p [] = ap kept (sym (append-nil p))
+keeps p (b ∷ bs) = ap (λ h. fold more h bs) (kept_more p b) ∙ keeps (p ++ (b ∷ [])) bs ∙ ap kept (append_assoc p (b ∷ []) bs)
 
-plain_push : (p : List ℕ) (b : ℕ) → Plain p → eqb b 10 ≡ false → Plain (p ++ (b ∷ []))
-plain_push [] b h e = (e, tt)
-plain_push (x ∷ p) b h e = (h.0, plain_push p b h.1 e)
+module _ (p bs : List ℕ) (h : length p ≤ longest) where
+  is_kept : Some p ≡ kept p
+  is_kept = let yes : leb (length p) 80 ≡ true = le-leb _ _ h in simp yes
+
+  -- there is room for them, or there is none
+  pub extends : length p + length bs ≤ longest → Some (p ++ bs) ≡ fold more (Some p) bs
+  extends l =
+      let yes : leb (length (p ++ bs)) 80 ≡ true = le-leb _ _ (omega (arith, length-append p bs)) in
+      let all : kept (p ++ bs) ≡ Some (p ++ bs) = simp yes in
+      sym (ap (λ o. fold more o bs) is_kept ∙ keeps p bs ∙ all)
+
+  pub overflows : longest < length p + length bs → None ≡ fold more (Some p) bs
+  overflows l =
+      let no : leb (length (p ++ bs)) 80 ≡ false = lt-leb _ _ (omega (arith, length-append p bs)) in
+      let none : kept (p ++ bs) ≡ None = simp no in
+      sym (ap (λ o. fold more o bs) is_kept ∙ keeps p bs ∙ none)
+
+pub stays_lost : (bs : List ℕ) → None ≡ fold more None bs
+stays_lost [] = refl
+stays_lost (b ∷ bs) = stays_lost bs
 
 -- the line that a plain piece begins
 lines_ends : (p : List ℕ) (b : ℕ) (bs : List ℕ) → Plain p → eqb b 10 ≡ true → lines_of (p ++ (b ∷ bs)) ≡ (p ++ (b ∷ [])) ∷ lines_of bs
@@ -146,7 +175,7 @@ whole_is p (b ∷ bs) h =
     (λ e.
     whole_on (kept p) b bs e
     ∙ ap (λ k. whole k bs) (kept_more p b)
-    ∙ whole_is (p ++ (b ∷ [])) bs (plain_push p b h e)
+    ∙ whole_is (p ++ (b ∷ [])) bs (fails_push (λ x. eqb x 10) p b h e)
     ∙ ap (λ q. map kept (lines_of q)) (append_assoc p (b ∷ []) bs))
     (cases_Bool (eqb b 10))
 

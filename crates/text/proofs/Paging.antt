@@ -1,10 +1,10 @@
 -- One text after another on a page.
-use Rattle.std.proofs.Common.{◌≡◌, ℕ, ◌+◌, ◌/◌, ◌^◌, ◌<◌, ◌≤◌, Bool, true, false, cond, eqb, ltb, List, [], ◌∷◌, ◌++◌, map, length, get_or, take, drop, Ok, decimal, sym, refl, ap, ◌∙◌, subst, append_assoc, arith}
-use Rattle.std.proofs.lemmas.Fmt.{length-decimal-le, decimal_step}
-use Rattle.std.proofs.lemmas.Bool.{le-ltb, ne_eqb}
-use Rattle.std.proofs.lemmas.List.{drop-drop, length-append, length_push, take-append-drop, at_drop_more, at_drop_all}
+use Rattle.std.proofs.Common.{◌≡◌, ℕ, ◌+◌, ◌^◌, ◌<◌, ◌≤◌, Bool, true, false, cond, eqb, List, [], ◌∷◌, ◌++◌, map, length, get_or, take, drop, decimal, sym, refl, ap, ◌∙◌, append_assoc, arith}
+use Rattle.std.proofs.lemmas.Fmt.{length-decimal-le}
+use Rattle.std.proofs.lemmas.Bool.{ne_eqb}
+use Rattle.std.proofs.lemmas.List.{drop-drop, length-append, take-append-drop, at_drop_more}
 use Rattle.text.specs.Fields.{tab, tabbed, line_of}
-use Rattle.text.specs.Pages.{Puts, gap, field_text, answered, page_with}
+use Rattle.text.specs.Pages.{Puts, gap, field_text, fault_fields}
 use Rattle.text.specs.Faults.{layer_of, layer_word}
 use Rattle.text.specs.declared.fault.Fault.{Fault}
 use Rattle.text.specs.declared.fault.Layer.{Layer}
@@ -12,10 +12,6 @@ use Rattle.text.specs.declared.page.Field.{Field}
 use Rattle.text.specs.declared.page.Field.TheVariants as field
 use Rattle.rules.specs.declared.refusal.Refusal.{Refusal}
 use Rattle.rules.specs.Words.{refusal_number}
-
--- a figure of more than one digit has one more than its tenth
-pub more_long : (n : ℕ) → 10 ≤ n → n < 2 ^ 64 → length (decimal n) ≡ length (decimal (n / 10)) + 1
-more_long n h f = ap length (decimal_step n h f) ∙ length_push (decimal (n / 10)) _
 
 pub puts_then : {page mid after : List ℕ} {at next end : ℕ} {text more : List ℕ} → Puts page at text mid next → Puts mid next more after end → Puts page at (text ++ more) after end
 puts_then {page} {mid} {after} {at} {next} {end} {text} {more} p q =
@@ -47,23 +43,25 @@ layer_short l = grind arith
 number_small : (r : Refusal) → refusal_number r < 14
 number_small r = grind arith
 
--- how long the fields of a fault are at most, as they were read off it
-pub fault_short : (f : Fault) (word : List ℕ) (number field : ℕ) → word ≡ layer_word (layer_of f.refusal) → number ≡ refusal_number f.refusal → field ≡ f.field → f.field < 2 ^ 32
-    → (length word ≤ 5) × (length (decimal number) ≤ 2) × (length (decimal field) ≤ 10)
-fault_short f word number field w n k h =
+-- how long the fields of a fault are at most, with what stands between them
+pub fault_short : (f : Fault) → f.field < 2 ^ 32 → length (line_of (fault_fields f)) ≤ 20
+fault_short f h =
     let l = layer_short (layer_of f.refusal) in
     let s = number_small f.refusal in
-    (omega (arith, ap length w), length-decimal-le 2 number (omega arith) (omega arith) (omega arith), length-decimal-le 10 field (omega arith) (omega arith) (omega arith))
+    let number = length-decimal-le 2 (refusal_number f.refusal) (omega arith) (omega arith) (omega arith) in
+    let field = length-decimal-le 10 f.field (omega arith) (omega arith) (omega arith) in
+    simp length-append (omega arith)
+
+-- a line of three fields that lie in a list
+pub of_three : (fs : List Field) (d : Field) → length fs ≡ 3 → field_text (get_or fs 0 d) ++ (tab ∷ (field_text (get_or fs 1 d) ++ (tab ∷ (field_text (get_or fs 2 d) ++ (10 ∷ []))))) ≡ line_of (map field_text fs)
+of_three [] d h = absurd (omega arith)
+of_three (a ∷ []) d h = absurd (omega arith)
+of_three (a ∷ b ∷ []) d h = absurd (omega arith)
+of_three (a ∷ b ∷ c ∷ []) d h = refl
+of_three (a ∷ b ∷ c ∷ e ∷ fs) d h = absurd (omega arith)
 
 pub figure_short : (n : ℕ) → n < 2 ^ 64 → length (decimal n) ≤ 20
 figure_short n h = length-decimal-le 20 n (omega arith) (omega arith) h
-
--- what a call answers that has written its text
-pub written : (page text after : List ℕ) (end : ℕ) → 64 ≤ length page → Puts page 0 text after end → (Ok end ≡ answered text page) × (after ≡ page_with text page)
-written page text after end h p =
-    let room : ltb (length page) 64 ≡ false = le-ltb _ _ h in
-    let long : end ≡ length text = omega (arith, p.ends) in
-    (rw room (ap Ok long), rw room (puts_page page text after end p))
 
 -- what is written of a line from the field at this place on
 abbrev pub line_from : ℕ → List (List ℕ) → List ℕ
@@ -87,15 +85,6 @@ module _ (fields : List Field) (place : ℕ) (d : Field) (l : place < length fie
       at_drop_more (λ fs. line_from place (map field_text fs)) fields place d l
       ∙ line_more place (field_text (get_or fields place d)) (map field_text (drop (place + 1) fields))
 
-  -- the next field and its gap are a part of the line
-  pub line_room : (text line : List ℕ) → text ++ line_from place (map field_text (drop place fields)) ≡ line
-      → length text + length (gap place) + length (field_text (get_or fields place d)) ≤ length line
-  line_room text line e =
-      let long = sym (length-append text (line_from place (map field_text (drop place fields)))) ∙ ap length e in
-      let next = ap length line_at ∙ length-append (gap place) (field_text (get_or fields place d) ++ line_from (place + 1) (map field_text (drop (place + 1) fields))) in
-      let more = length-append (field_text (get_or fields place d)) (line_from (place + 1) (map field_text (drop (place + 1) fields))) in
-      omega arith
-
   -- one field more was written
   pub line_again : {page mid next after : List ℕ} {at end start stop : ℕ} {text line : List ℕ} → Puts page at text mid end → text ++ line_from place (map field_text (drop place fields)) ≡ line
       → Puts mid end (gap place) next start → Puts next start (field_text (get_or fields place d)) after stop
@@ -105,22 +94,3 @@ module _ (fields : List Field) (place : ℕ) (d : Field) (l : place < length fie
     puts_then p (puts_then q r),
     append_assoc text _ _ ∙ ap (λ xs. text ++ xs) (append_assoc (gap place) _ _ ∙ sym line_at) ∙ e,
   )
-
--- all fields were written
-line_ends : (fields : List Field) (place : ℕ) → length fields ≤ place → line_from place (map field_text (drop place fields)) ≡ 10 ∷ []
-line_ends fields place l = at_drop_all (λ fs. line_from place (map field_text fs)) fields place l ∙ by (eqb place 0)
-  where
-    by : (s : Bool) → cond s (line_of []) (tabbed []) ≡ 10 ∷ []
-    by true = refl
-    by false = refl
-
-pub line_end_room : (fields : List Field) (place : ℕ) → length fields ≤ place → (text line : List ℕ) → text ++ line_from place (map field_text (drop place fields)) ≡ line → length text + 1 ≤ length line
-line_end_room fields place l text line e =
-    let long = sym (length-append text (line_from place (map field_text (drop place fields)))) ∙ ap length e in
-    let last = ap length (line_ends fields place l) in
-    omega arith
-
-pub line_done : (fields : List Field) (place : ℕ) → length fields ≤ place → {page mid after : List ℕ} {at end stop : ℕ} {text line : List ℕ} → Puts page at text mid end
-    → text ++ line_from place (map field_text (drop place fields)) ≡ line → Puts mid end (10 ∷ []) after stop → Puts page at line after stop
-line_done fields place l {page} {mid} {after} {at} {end} {stop} {text} {line} p e q =
-    subst (λ xs. Puts page at xs after stop) (ap (λ xs. text ++ xs) (sym (line_ends fields place l)) ∙ e) (puts_then p q)

@@ -1,12 +1,12 @@
 -- What `parse` makes of a text, and what a figure is.
-use Rattle.std.proofs.Common.{◌≡◌, ℕ, ◌^◌, ◌<◌, ◌≤◌, true, false, ltb, List, [], ◌∷◌, length, get_or, Some, None, Ok, Err, IsUtf8, Result, sym, refl, ap, ◌∙◌, ⊎_elim, arith, rules}
+use Rattle.std.proofs.Common.{◌≡◌, ℕ, ◌^◌, ◌<◌, ◌≤◌, true, false, ltb, List, length, get_or, Some, None, Ok, Err, IsUtf8, Result, sym, ap, ◌∙◌, ⊎_elim, arith, rules}
 use Rattle.std.specs.Str.Parse.{ParsesUnsigned}
 use Rattle.std.specs.Result.{OkIff, result_ok}
 use Rattle.std.specs.Str.{all_ascii_digits}
 use Rattle.std.proofs.lemmas.Str.{IsUtf8-from_ascii}
 use Rattle.std.proofs.lemmas.Str.Parse.{IsNumeralModel, numerals_by_fold, parse_plain}
 use Rattle.std.proofs.lemmas.Fmt.{length-decimal-le, decimal-digits_value, IsAscii-from_digits}
-use Rattle.std.proofs.lemmas.Bool.{and_parts, and_from, and_cases, not-true, not-false, not_from_false, leb-true, le-leb, eqb-true, eq-eqb, cond-true, cond-false, cases_Bool, cases_lt, both_ways}
+use Rattle.std.proofs.lemmas.Bool.{and_parts, and_from, not-true, not_from_false, leb-true, le-leb, eq-eqb, cond-true, cond-false, cases_Bool, cases_lt, both_ways}
 use Rattle.text.specs.Figures.{read_on, number_of, padded, bare, is_figure, figure_of}
 
 -- digits read from the left write a number
@@ -52,16 +52,6 @@ few_digits text d s p l =
     let short = length-decimal-le 10 (number_of text) (omega arith) (omega arith) (omega arith) in
     omega (arith, ap length w)
 
-sign_no_digit : (text : List ℕ) → get_or text 0 0 ≡ 43 → all_ascii_digits text ≡ true → ⊥
-sign_no_digit [] e d = omega arith
-sign_no_digit (b ∷ text) e d = let f : all_ascii_digits (43 ∷ text) ≡ true = ap (λ x. all_ascii_digits (x ∷ text)) (sym e) ∙ d in both_ways _ refl f
-
--- a sign or padding
-pub not_bare : (text : List ℕ) → bare text ≡ false → figure_of text ≡ None
-not_bare text h =
-    no_figure text
-    (λ f. ⊎_elim (λ s. sign_no_digit text (eqb-true _ _ (not-false _ s)) f.digits) (λ p. both_ways _ f.unpadded (not-false _ p)) (and_cases _ _ h))
-
 -- no text in UTF-8 at all
 pub not_text : (text : List ℕ) → (IsUtf8 text → ⊥) → figure_of text ≡ None
 not_text text n = no_figure text (λ f. n (IsUtf8-from_ascii text (IsAscii-from_digits text (own.to text f.digits))))
@@ -77,8 +67,3 @@ parsed text r h reads =
         let f = figure_from text (record { digits = c.0.0; some = c.0.1; few = few_digits text c.0.0 c.0.1 p c.0.2; unpadded = p; small = c.0.2 }) in
         ap Some c.1 ∙ sym (cond-true (is_figure text) _ _ f)
     by (Err e) p c = sym (no_figure text (λ f. c (f.digits, f.some, f.small)))
-
--- no text has nothing in front
-pub bare_empty : (text : List ℕ) → length text ≡ 0 → true ≡ bare text
-bare_empty [] h = refl
-bare_empty (b ∷ text) h = let z : ⊥ = omega arith in elim z [ ]

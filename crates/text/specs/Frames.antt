@@ -1,7 +1,6 @@
 -- How an input is cut into lines, and what the framer makes of it, block by block.
-use Rattle.std.specs.Prelude.{◌≡◌, ℕ, Bool, false, cond, List, [], ◌∷◌, ◌++◌, map, length, take, Some, None, Option, ◌==◌, nat_le}
+use Rattle.std.specs.Prelude.{◌≡◌, ℕ, Bool, false, cond, List, [], ◌∷◌, ◌++◌, map, length, Some, None, Option, ◌==◌, nat_le}
 use Rattle.std.specs.List.{flat_map}
-use Rattle.text.specs.declared.frame.Framer.{Framer}
 
 -- what ends a line, and belongs to it
 abbrev pub feed : ℕ
@@ -28,10 +27,6 @@ Whole = (input : List ℕ) → flat_map (λ line. line) (lines_of input) ≡ inp
 -- what is kept of a line: all of it, if it is not too long
 abbrev pub kept : List ℕ → Option (List ℕ)
 kept line = cond (nat_le (length line) longest) (Some line) None
-
--- what a framer has kept of the current line
-abbrev pub held : Framer → Option (List ℕ)
-held f = cond (nat_le f.len longest) (Some (take f.len f.bytes)) None
 
 -- one more byte of a line
 abbrev pub more : Option (List ℕ) → ℕ → Option (List ℕ)

@@ -1,3 +1,4 @@
+pub mod Counts
 pub mod Faults
 pub mod Fields
 pub mod Figures
@@ -6,3 +7,4 @@ pub mod Heads
 pub mod Lines
 pub mod Pages
 pub mod Tokens
+pub mod Verbs

@@ -11,11 +11,11 @@ pub enum Layer {
     Board,
 }
 
-impl Layer {
-    /// The layer that a refusal belongs to.
-    pub fn of(refusal: Refusal) -> Layer
-        ensures { result ≡ layer_of refusal }
-    {
+/// The layer that a refusal belongs to.
+impl From<Refusal> for Layer {
+    ghost from_gives = { λ refusal layer. layer ≡ layer_of refusal };
+
+    fn from(refusal: Refusal) -> Layer {
         match refusal {
             Refusal::Limits
             | Refusal::Columns
@@ -32,7 +32,9 @@ impl Layer {
             | Refusal::Grant => Layer::Line,
         }
     }
+}
 
+impl Layer {
     /// The word that answers use.
     pub fn word(self) -> &'static [u8]
         ensures { result.now ≡ layer_word self }
@@ -67,7 +69,7 @@ impl Fault {
     pub fn layer(self) -> Layer
         ensures { result ≡ layer_of self.refusal }
     {
-        Layer::of(self.refusal)
+        self.refusal.into()
     }
 }
 
@@ -94,7 +96,7 @@ impl LineFault {
     {
         LineFault {
             line: 0,
-            fault: Fault::new(Refusal::Line, 0, 0),
+            fault: Refusal::Line.into(),
         }
     }
 }

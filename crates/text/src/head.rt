@@ -31,7 +31,7 @@ impl Figures {
     pub fn allow(self, count: u32) -> bool
         ensures { result ≡ wanted self count }
     {
-        self.least <= count && count <= self.most
+        (self.least..=self.most).contains(&count)
     }
 }
 
@@ -39,10 +39,7 @@ impl Figures {
 fn head_of<H: Head>(first: &[u8]) -> Option<H>
     ensures { result ≡ head_in H.Head.spelled H.Head.wants (token_of first.now 1) }
 {
-    match Token::new(first, 1).word() {
-        Some(text) => H::named(text),
-        None => None,
-    }
+    H::named(Token::new(first, 1).word()?)
 }
 
 /// Reads a line. What is wrong with it is tried in this order: it is no line, its first field is no
@@ -51,7 +48,7 @@ pub fn read_line<H: Head>(line: &[u8]) -> Result<(H, [u32; MOST_FIGURES]), Fault
     ensures { result ≡ line_read H.Head.spelled H.Head.wants line.now }
 {
     if !is_line(line) {
-        return Err(Fault::new(Refusal::Line, 0, 0));
+        return Err(Refusal::Line.into());
     }
     let found = count_fields(line) as u32;
     let (first, _rest) = next_field(line);

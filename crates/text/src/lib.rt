@@ -10,3 +10,4 @@ pub mod head;
 pub mod line;
 pub mod page;
 pub mod token;
+pub mod verb;

@@ -1,9 +1,11 @@
 //! Text on a page that the caller lends.
-ghost use Rattle.std.specs.Prelude.{◌≡◌, ◌+◌, ◌≤◌, map, length, IfOk, decimal};
+ghost use Rattle.std.specs.Prelude.{◌≡◌, ◌+◌, ◌≤◌, map, length, IfOk};
 ghost use Rattle.text.specs.Fields.{line_of};
-ghost use Rattle.text.specs.Pages.{shortest, field_text, gap, Puts, checked, Checked, no_line, fault_line, end_line, answered, page_with};
+ghost use Rattle.text.specs.declared.page.Field.TheVariants.{Figure};
+ghost use Rattle.text.specs.Pages.{shortest, field_text, gap, Puts, checked, Checked, fault_fields, no_line, fault_line, end_line, answered, page_with};
 
 use crate::fault::Fault;
+use itoa::Buffer;
 use rules::refusal::Refusal;
 
 /// A page of this many bytes has room for every answer.
@@ -16,38 +18,49 @@ pub enum Field<'a> {
     Figure(u64),
 }
 
-/// Writes the text from `at` on, and answers the place after it.
-fn put(page: &mut [u8], at: usize, text: &[u8]) -> usize
-    requires { at + length text.now ≤ length page.old }
-    ensures { Puts page.old at text.now page.new result }
-{
-    let end = at + text.len();
-    page[at..end].copy_from_slice(text);
-    end
-}
+/// A figure of 32 bits has at most ten digits.
+impl From<u32> for Field<'_> {
+    ghost from_gives = { λ n field. (field ≡ Figure n) × (length (field_text field) ≤ 10) };
 
-/// Writes the digits of `n`.
-fn put_digits(page: &mut [u8], at: usize, n: u64) -> usize
-    requires { at + length (decimal n) ≤ length page.old }
-    ensures { Puts page.old at (decimal n) page.new result }
-{
-    if n < 10 {
-        page[at] = b'0' + n as u8;
-        return at + 1;
+    fn from(n: u32) -> Self {
+        Field::Figure(u64::from(n))
     }
-    let end = put_digits(page, at, n / 10);
-    page[end] = b'0' + (n % 10) as u8;
-    end + 1
 }
 
-/// Writes a field.
-fn put_field(page: &mut [u8], at: usize, field: Field) -> usize
-    requires { at + length (field_text field) ≤ length page.old }
-    ensures { Puts page.old at (field_text field.entry) page.new result }
-{
-    match field {
-        Field::Word(text) => put(page, at, text),
-        Field::Figure(n) => put_digits(page, at, n),
+/// A page, and the place from which on it is written.
+#[derive(Drop)]
+struct Writer<'a> {
+    page: &'a mut [u8],
+    at: usize,
+}
+
+impl Writer<'_> {
+    /// Writes the text.
+    fn put(&mut self, text: &[u8])
+        requires { self.old.at + length text.now ≤ length self.old.page.now }
+        ensures text { Puts self.old.page.now self.old.at text.now self.new.page.now self.new.at }
+        ensures same { self.new.page.ghost_name ≡ self.old.page.ghost_name }
+        ensures long { length self.new.page.now ≡ length self.old.page.now }
+    {
+        let end = self.at + text.len();
+        self.page[self.at..end].copy_from_slice(text);
+        self.at = end;
+    }
+
+    /// Writes a field.
+    fn put_field(&mut self, field: Field)
+        requires { self.old.at + length (field_text field) ≤ length self.old.page.now }
+        ensures text { Puts self.old.page.now self.old.at (field_text field.entry) self.new.page.now self.new.at }
+        ensures same { self.new.page.ghost_name ≡ self.old.page.ghost_name }
+        ensures long { length self.new.page.now ≡ length self.old.page.now }
+    {
+        match field {
+            Field::Word(text) => self.put(text),
+            Field::Figure(n) => {
+                let mut digits = Buffer::new();
+                self.put(digits.format(n).as_bytes());
+            }
+        }
     }
 }
 
@@ -63,12 +76,13 @@ pub fn put_line(page: &mut [u8], at: usize, fields: &[Field]) -> usize
     requires { at + length (line_of (map field_text fields.now)) ≤ length page.old }
     ensures { Puts page.old at (line_of (map field_text fields.now)) page.new result }
 {
-    let mut end = at;
+    let mut writer = Writer { page, at };
     for (i, field) in fields.iter().enumerate() {
-        end = put(page, end, gap_before(i));
-        end = put_field(page, end, *field);
+        writer.put(gap_before(i));
+        writer.put_field(*field);
     }
-    put(page, end, b"\n")
+    writer.put(b"\n");
+    writer.at
 }
 
 /// Whether the page has room for an answer.
@@ -77,7 +91,7 @@ pub fn check(page: &[u8]) -> Result<(), Fault>
     ensures room { Checked page.now result }
 {
     if page.len() < SHORTEST {
-        return Err(Fault::new(Refusal::Page, 0, 0));
+        return Err(Refusal::Page.into());
     }
     Ok(())
 }
@@ -93,22 +107,26 @@ fn write_line(page: &mut [u8], fields: &[Field]) -> Result<usize, Fault>
     Ok(put_line(page, 0, fields))
 }
 
+/// What tells a fault in a line: its layer, its number and its field.
+fn fault_fields(fault: Fault) -> [Field<'static>; 3]
+    ensures fields { map field_text result ≡ fault_fields fault }
+    ensures short { length (line_of (fault_fields fault)) ≤ 20 }
+{
+    [
+        Field::Word(fault.layer().word()),
+        fault.refusal.number().into(),
+        fault.field.into(),
+    ]
+}
+
 /// Writes the answer to a line that was refused: `no` and the fault.
 pub fn write_no(page: &mut [u8], fault: Fault) -> Result<usize, Fault>
     ensures value { result ≡ answered (no_line fault) page.old }
     ensures after { page.new ≡ page_with (no_line fault) page.old }
     ensures fits { IfOk result (λ n. n ≤ shortest) }
 {
-    let layer = fault.layer().word();
-    let number = u64::from(fault.refusal.number());
-    let field = u64::from(fault.field);
-    let fields = [
-        Field::Word(b"no"),
-        Field::Word(layer),
-        Field::Figure(number),
-        Field::Figure(field),
-    ];
-    write_line(page, &fields)
+    let [layer, number, field] = fault_fields(fault);
+    write_line(page, &[Field::Word(b"no"), layer, number, field])
 }
 
 /// Writes the closing line of a fault: `fault`, the number of its line, and the fault.
@@ -117,17 +135,17 @@ pub fn write_fault(page: &mut [u8], line: u64, fault: Fault) -> Result<usize, Fa
     ensures after { page.new ≡ page_with (fault_line line fault) page.old }
     ensures fits { IfOk result (λ n. n ≤ shortest) }
 {
-    let layer = fault.layer().word();
-    let number = u64::from(fault.refusal.number());
-    let field = u64::from(fault.field);
-    let fields = [
-        Field::Word(b"fault"),
-        Field::Figure(line),
-        Field::Word(layer),
-        Field::Figure(number),
-        Field::Figure(field),
-    ];
-    write_line(page, &fields)
+    let [layer, number, field] = fault_fields(fault);
+    write_line(
+        page,
+        &[
+            Field::Word(b"fault"),
+            Field::Figure(line),
+            layer,
+            number,
+            field,
+        ],
+    )
 }
 
 /// Writes the last line: `end`, how many lines were read, and how many of them were refused.
@@ -136,10 +154,12 @@ pub fn write_end(page: &mut [u8], lines: u64, refusals: u64) -> Result<usize, Fa
     ensures after { page.new ≡ page_with (end_line lines refusals) page.old }
     ensures fits { IfOk result (λ n. n ≤ shortest) }
 {
-    let fields = [
-        Field::Word(b"end"),
-        Field::Figure(lines),
-        Field::Figure(refusals),
-    ];
-    write_line(page, &fields)
+    write_line(
+        page,
+        &[
+            Field::Word(b"end"),
+            Field::Figure(lines),
+            Field::Figure(refusals),
+        ],
+    )
 }

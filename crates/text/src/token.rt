@@ -6,7 +6,7 @@ ghost use Rattle.text.specs.Fields.{fields_of};
 ghost use Rattle.text.specs.Tokens.{told_by, token_of, word_in, figure_in, figures_of};
 
 use crate::fault::Fault;
-use crate::field::next_field;
+use crate::field::{Fields, next_field};
 use rules::refusal::Refusal;
 use std::str::from_utf8;
 
@@ -21,10 +21,7 @@ pub enum Token<'a> {
 fn is_bare(text: &[u8]) -> bool
     ensures { result ≡ bare text.now }
 {
-    if text.is_empty() {
-        return true;
-    }
-    text[0] != b'+' && (text[0] != b'0' || text.len() == 1)
+    !matches!(text, [b'+', ..] | [b'0', _, ..])
 }
 
 /// The number of a figure: 1 to 10 digits, no zero before others, at most 4,294,967,295.
@@ -34,10 +31,10 @@ fn figure(text: &[u8]) -> Option<u32>
     if !is_bare(text) {
         return None;
     }
-    match from_utf8(text) {
-        Ok(digits) => digits.parse::<u32>().ok(),
-        Err(_) => None,
-    }
+    let Ok(digits) = from_utf8(text) else {
+        return None;
+    };
+    digits.parse().ok()
 }
 
 impl<'a> Token<'a> {
@@ -79,15 +76,10 @@ pub const MOST_FIGURES: usize = 5;
 pub fn read_figures(line: &[u8]) -> Result<[u32; MOST_FIGURES], Fault>
     ensures { result ≡ figures_of (fields_of line.now) }
 {
-    let (_first, mut rest) = next_field(line);
+    let (_first, rest) = next_field(line);
     let mut figures = [0; MOST_FIGURES];
-    for i in 0..MOST_FIGURES {
-        let Some(more) = rest else {
-            return Ok(figures);
-        };
-        let (text, after) = next_field(more);
+    for (i, text) in Fields::left(rest).enumerate().take(MOST_FIGURES) {
         figures[i] = Token::new(text, i as u32 + 2).figure()?;
-        rest = after;
     }
     Ok(figures)
 }

@@ -1,6 +1,6 @@
 use Rattle.std.proofs.Common.{◌≡◌, Bool, true, false, leb, length, Some, refl}
+use Rattle.text.specs.Frames.{kept}
 use Rattle.console.specs.Lines.{Unaffected, line_fault}
-use Rattle.console.specs.Frames.{kept}
 
 unaffected : Unaffected
 unaffected bytes = by (leb (length bytes) 80) refl

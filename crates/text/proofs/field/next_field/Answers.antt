@@ -1,42 +1,42 @@
-use Rattle.std.proofs.Common.{◌≡◌, ◌+◌, ◌-◌, [], ◌∷◌, take, drop, Some, sym, ap, ◌∙◌, arith}
-use Rattle.std.proofs.lemmas.List.{take_rest, take_all}
-use Rattle.text.specs.Fields.{fields_of, plain}
-use Rattle.text.proofs.Cutting.{tab_at, feed_at, ends_at_tab, ends_at_feed, plain_more, plain_end, cut_end}
+use Rattle.std.proofs.Common.{◌≡◌, ℕ, ⊎_elim, ◌+◌, ◌∷◌, ◌||◌, eqb, take, true, Some, sym, ap, ◌∙◌}
+use Rattle.std.proofs.lemmas.List.{take_rest}
+use Rattle.std.proofs.lemmas.Bool.{eqb-true, or_cases}
+use Rattle.text.specs.Fields.{fields_of}
+use Rattle.text.proofs.Placing.{none_passes, first_at}
+use Rattle.text.proofs.Cutting.{tab_at, feed_at, ends_at_tab, ends_at_feed, plain_from, plain_end, cut_end}
 use Rattle.text.proofs.field.next_field.Goals as goal
 
-pub returns-then-byte-eq-TAB : goal.returns-then-byte-eq-TAB
-returns-then-byte-eq-TAB c =
+-- what ends a field and is no tab is the line feed
+feed_or_tab : (b : ℕ) → (eqb b 10 || eqb b 9) ≡ true → (b ≡ 9 → ⊥) → b ≡ 10
+feed_or_tab b h n = ⊎_elim (λ e. eqb-true b 10 e) (λ e. absurd (n (eqb-true b 9 e))) (or_cases _ _ h)
+
+pub returns-in_default : goal.returns-in_default
+returns-in_default c =
     let bytes = c.args.rest.now in
-    let i = c.loop-i.i in
-    let front : i - 0 ≡ i = omega arith in
+    let all = plain_from bytes (none_passes (λ b. eqb b 10 || eqb b 9) bytes (sym c.field_end.ensures.place ∙ c.in_default.is)) in
+    let end = plain_end bytes all in
+    record { field = end.0; rest = end.1; fields = cut_end bytes all }
+
+pub returns-then-rest-i-eq-TAB : goal.returns-then-rest-i-eq-TAB
+returns-then-rest-i-eq-TAB c =
+    let bytes = c.args.rest.now in
+    let i = c.in-Some.i in
+    let f = first_at (λ b. eqb b 10 || eqb b 9) bytes i (sym c.field_end.ensures.place ∙ c.in-Some.is) in
+    let front = plain_from (take i bytes) f.before in
     let back = take_rest bytes (i + 1) in
-    let cut = ends_at_tab bytes i c.loop-i-test.true c.loop-i.invariant c.if-byte-eq-TAB.true in
+    let cut = ends_at_tab bytes i f.inside front c.if-rest-i-eq-TAB.true in
     record {
-      field = ap (λ n. take n bytes) front ∙ sym cut.0;
+      field = sym cut.0;
       rest = ap Some back ∙ sym cut.1;
-      fields =
-          tab_at bytes i c.loop-i-test.true c.loop-i.invariant c.if-byte-eq-TAB.true
-          ∙ ap (λ n. take n bytes ∷ fields_of (drop (i + 1) bytes)) (sym front)
-          ∙ ap (λ bs. take (i - 0) bytes ∷ fields_of bs) (sym back);
+      fields = tab_at bytes i f.inside front c.if-rest-i-eq-TAB.true ∙ ap (λ bs. take i bytes ∷ fields_of bs) (sym back);
     }
 
-pub returns-then-byte-eq-FEED : goal.returns-then-byte-eq-FEED
-returns-then-byte-eq-FEED c =
+pub returns-else-rest-i-eq-TAB : goal.returns-else-rest-i-eq-TAB
+returns-else-rest-i-eq-TAB c =
     let bytes = c.args.rest.now in
-    let i = c.loop-i.i in
-    let front : i - 0 ≡ i = omega arith in
-    let cut = ends_at_feed bytes i c.loop-i-test.true c.loop-i.invariant c.if-byte-eq-FEED.true in
-    record {
-      field = ap (λ n. take n bytes) front ∙ sym cut.0;
-      rest = sym cut.1;
-      fields = feed_at bytes i c.loop-i-test.true c.loop-i.invariant c.if-byte-eq-FEED.true ∙ ap (λ n. take n bytes ∷ []) (sym front);
-    }
-
-pub loop-i-preserved : goal.loop-i-preserved
-loop-i-preserved c = plain_more c.args.rest.now c.loop-i.i c.loop-i-test.true c.loop-i.invariant c.if-byte-eq-FEED.false c.if-byte-eq-TAB.false
-
-pub returns : goal.returns
-returns c =
-    let whole = ap plain (sym (take_all c.loop-i.i c.args.rest.now c.loop-i-test.false)) ∙ c.loop-i.invariant in
-    let all = plain_end c.args.rest.now whole in
-    record { field = all.0; rest = all.1; fields = cut_end c.args.rest.now whole }
+    let i = c.in-Some.i in
+    let f = first_at (λ b. eqb b 10 || eqb b 9) bytes i (sym c.field_end.ensures.place ∙ c.in-Some.is) in
+    let front = plain_from (take i bytes) f.before in
+    let feed = feed_or_tab _ f.passes c.if-rest-i-eq-TAB.false in
+    let cut = ends_at_feed bytes i f.inside front feed in
+    record { field = sym cut.0; rest = sym cut.1; fields = feed_at bytes i f.inside front feed }

@@ -1,6 +1,8 @@
-use Rattle.std.proofs.Common.{refl}
 use Rattle.text.proofs.Framing.{frames, whole_lines}
 use Rattle.text.proofs.frame.Framer.new.Goals as goal
 
-pub returns : goal.returns
-returns c = record { start = refl; lines = frames; whole = whole_lines }
+pub returns-clause-lines : goal.returns-clause-lines
+returns-clause-lines c = rw c.new.ensures frames
+
+pub returns-clause-whole : goal.returns-clause-whole
+returns-clause-whole c = whole_lines

@@ -1,2 +1,0 @@
-mod Framing
-mod Paging
