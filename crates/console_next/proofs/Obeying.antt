@@ -38,7 +38,7 @@ module _ (x : Rack) (z : Sizes) (first : ℕ) where
 
 -- the same of an order that is known to be an opening, and of one that asks to show a column
 module _ {S : Type 0} (m : Meaning S) (x : Rack) (c : Contents Report) (s : S) (o : Order) where
-  pub opens_on : (z : Sizes) (first : ℕ) (y : Rack) → o ≡ order.Open z.rows z.columns z.places z.lead first → y ≡ (open' x z first).rack → ((open' x z first).answer ≡ Ok tt → Reaches [] y)
+  pub opens_on : (z : Sizes) (first : ℕ) (y : Rack) → o ≡ order.Open z first → y ≡ (open' x z first).rack → ((open' x z first).answer ≡ Ok tt → Reaches [] y)
       → Continues (called m x c s o).tells x y
   opens_on z first y e r a = subst (λ p. Continues (called m x c s p).tells x y) (sym e) (open_continues x z first y r a)
 

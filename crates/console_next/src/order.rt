@@ -12,16 +12,10 @@ use text::verb::Verb;
 /// A call of the board with its figures.
 #[derive(Clone, Copy, PartialEq, Eq, Debug)]
 pub enum Order {
-    Open {
-        sizes: Sizes,
-        first: u32,
-    },
+    Open { sizes: Sizes, first: u32 },
     Book(Request),
     Step(u32),
-    Drive {
-        number: u32,
-        budget: u32,
-    },
+    Drive { number: u32, budget: u32 },
     Collect(u32),
     Drop(u32),
     Back(u32),
