@@ -1,5 +1,4 @@
 //! Lists of calls drawn by chance, each answer held against the slow ledger.
-use crate::tests::asks::NO_REPORT;
 use crate::tests::chance::Chance;
 use crate::tests::ledger::{Kind, Ledger, Rack};
 use crate::tests::reading::Foreseen;
@@ -172,7 +171,7 @@ impl Trial {
         let number = self.pick_to_step();
         let budget = self.chance.below(80);
         let room = (self.chance.below(65) as usize).min(64);
-        let mut places = [NO_REPORT; 64];
+        let mut places = [Report::default(); 64];
         let mut journal = Journal::new(&mut places[..room]);
         let must = self.must_drive(number, room);
         let answer = self.board.drive(number, budget, &mut journal, chooser);
