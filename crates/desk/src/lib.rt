@@ -14,6 +14,12 @@ use text::fault::{Fault, LineFault};
 use text::frame::Framer;
 use text::page::{SHORTEST, write_end, write_fault};
 
+/// How many bytes a read asks for.
+pub const BLOCK: usize = 65536;
+
+/// How many faults are printed at the end: the first ones.
+pub const FAULTS: usize = 256;
+
 /// What answers lines: it counts them, and notes the faults of those that it refuses.
 pub trait Handler {
     // the faults noted, how many lines were read, and how many of them were refused

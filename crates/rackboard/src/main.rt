@@ -6,15 +6,9 @@ ghost use Rattle.lists.specs.Contents.{entries_of};
 
 use console::fault::Fault;
 use console::session::{Journal, LineFault, Session};
-use desk::{Desk, Handler};
+use desk::{BLOCK, Desk, FAULTS, Handler};
 use std::io;
 use std::io::BufWriter;
-
-/// How many bytes a read asks for.
-const BLOCK: usize = 65536;
-
-/// How many faults are printed at the end: the first ones.
-const FAULTS: usize = 256;
 
 /// The session, and the journal that its faults are noted in.
 #[derive(Drop)]

@@ -7,21 +7,15 @@ ghost use Rattle.lists.specs.Contents.{entries_of};
 use board::board::Board;
 use board::lowest::Lowest;
 use console_next::session::Session;
-use desk::{Desk, Handler};
+use desk::{BLOCK, Desk, FAULTS, Handler};
 use lists::journal::Journal;
 use rules::report::Report;
 use std::io;
 use std::io::BufWriter;
 use text::fault::{Fault, LineFault};
 
-/// How many bytes a read asks for.
-const BLOCK: usize = 65536;
-
 /// How many steps a line can make.
 const REPORTS: usize = 4096;
-
-/// How many faults are printed at the end: the first ones.
-const FAULTS: usize = 256;
 
 /// The session, and the journals of the last line's reports and of the faults.
 #[derive(Drop)]

@@ -25,11 +25,7 @@ impl Head for GrantWord {
     ghost wants = { figures_after };
 
     fn named(text: &[u8]) -> Option<GrantWord> {
-        if text == b"grant".as_slice() {
-            Some(GrantWord::Grant)
-        } else {
-            None
-        }
+        (text == b"grant".as_slice()).then_some(GrantWord::Grant)
     }
 
     fn figures(self) -> Figures {
