@@ -1,14 +1,14 @@
 -- The text of a sheet, ticket by ticket.
-use Rattle.std.proofs.Common.{◌≡◌, ℕ, ◌+◌, ◌<◌, ◌≤◌, Bool, true, false, cond, ltb, List, [], ◌∷◌, ◌++◌, length, get_or, take, drop, Some, None, Ok, Err, decimal, Option, sym, refl, ap, ◌∙◌, subst, append_assoc, arith}
+use Rattle.std.proofs.Common.{◌≡◌, ℕ, ◌+◌, ◌<◌, ◌≤◌, Bool, true, false, cond, ltb, List, [], ◌∷◌, ◌++◌, length, get_or, take, drop, Some, None, Err, decimal, Option, sym, refl, ap, ◌∙◌, subst, append_assoc, arith}
 use Rattle.std.specs.List.{filter_map, cons_option, sum_by}
 use Rattle.std.proofs.lemmas.List.Sums.{sum_by-cons}
-use Rattle.std.proofs.lemmas.List.{length-append, append-nil, at_drop_more, at_drop_all}
-use Rattle.std.proofs.lemmas.Bool.{le-ltb, lt-ltb}
+use Rattle.std.proofs.lemmas.List.{length-append, append-nil, at_drop_more}
+use Rattle.std.proofs.lemmas.Bool.{lt-ltb}
 use Rattle.rules.specs.declared.ticket.Ticket.{Ticket}
 use Rattle.rules.specs.declared.refusal.Refusal.TheVariants as refusal
 use Rattle.text.specs.Faults.{fault_of}
 use Rattle.text.specs.Pages.{Puts}
-use Rattle.text.proofs.Paging.{puts_then, puts_page}
+use Rattle.text.proofs.Paging.{puts_then}
 use Rattle.sheets.specs.declared.grant.GrantLine.{GrantLine}
 use Rattle.sheets.specs.Grants.{is_out, grant_of, grant_told, out_among, grant_text, sheet_text, sheet_long, sheet_answer, page_after}
 
@@ -72,17 +72,6 @@ puts_none page after at stop p e =
 pub puts_at : {page after after' text : List ℕ} {at stop stop' : ℕ} → Puts page at text after stop → after' ≡ after → stop' ≡ stop → Puts page at text after' stop'
 puts_at {page} {after} {after'} {text} {at} {stop} {stop'} p e f =
     subst (λ xs. Puts page at text xs stop') (sym e) (subst (λ n. Puts page at text after n) (sym f) p)
-
--- no ticket is left
-pub told_all : (ts : List Ticket) (i : ℕ) → length ts ≤ i → sheet_text (out_among (drop i ts)) ≡ []
-told_all ts i l = at_drop_all (λ us. sheet_text (out_among us)) ts i l
-
--- what a call answers that has written the sheet
-pub written : (page text after : List ℕ) (end : ℕ) → length text ≤ length page → Puts page 0 text after end → (Ok end ≡ sheet_answer text page) × (after ≡ page_after text page)
-written page text after end h p =
-    let room : ltb (length page) (length text) ≡ false = le-ltb _ _ h in
-    let long : end ≡ length text = omega (arith, p.ends) in
-    (rw room (ap Ok long), rw room (puts_page page text after end p))
 
 -- what a call answers that finds no room
 pub unwritten : (page text : List ℕ) → length page < length text → (Err (fault_of refusal.Page 0 0) ≡ sheet_answer text page) × (page ≡ page_after text page)

@@ -1,7 +1,5 @@
-use Rattle.std.proofs.Common.{[], ◌++◌, sym, refl, ap, ◌∙◌, subst, arith}
-use Rattle.std.proofs.lemmas.List.{append-nil}
-use Rattle.text.specs.Pages.{Puts}
-use Rattle.sheets.proofs.Texts.{told_room, told_more, told_all, puts_none, puts_at}
+use Rattle.std.proofs.Common.{sym, ◌∙◌, arith}
+use Rattle.sheets.proofs.Texts.{told_room, told_more, puts_none, puts_at}
 use Rattle.sheets.proofs.write.put_sheet.Goals as goal
 use Rattle.sheets.proofs.write.put_sheet.Goals.{in-Some, in_default}
 
@@ -9,9 +7,6 @@ pub put_grant-end-requires : goal.put_grant-end-requires
 put_grant-end-requires c =
     let room = told_room c.args.tickets.now c.loop-ticket.ticket-index c.loop-ticket-test.true _ (sym c.in-Some.is ∙ c.grant_of.ensures) c.loop-ticket.invariant.0 _ c.loop-ticket.invariant.2 in
     omega (arith, c.loop-ticket.invariant.1.ends)
-
-pub loop-ticket-init : goal.loop-ticket-init
-loop-ticket-init c = ([], puts_none c.args.page.now _ 0 0 refl refl, refl)
 
 pub loop-ticket-preserved : goal.loop-ticket-preserved
 loop-ticket-preserved c =
@@ -25,10 +20,3 @@ loop-ticket-preserved c =
           c.loop-ticket.invariant.1 c.loop-ticket.invariant.2
           (puts_none c.loop-ticket.page _ c.loop-ticket.end _ w.page-is w.end-is)
     ]
-
-pub returns : goal.returns
-returns c =
-    let none = told_all c.args.tickets.now c.loop-ticket.ticket-index c.loop-ticket-test.false in
-    let text = c.loop-ticket.invariant.0 in
-    subst (λ xs. Puts c.args.page.now 0 xs c.loop-ticket.page c.loop-ticket.end)
-    (sym (append-nil text) ∙ ap (λ xs. text ++ xs) (sym none) ∙ c.loop-ticket.invariant.2) c.loop-ticket.invariant.1

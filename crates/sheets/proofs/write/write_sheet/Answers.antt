@@ -1,8 +1,7 @@
-use Rattle.std.proofs.Common.{◌≡◌, length, Err, ap, ◌∙◌, subst, arith}
-use Rattle.text.specs.Pages.{Puts}
+use Rattle.std.proofs.Common.{length, Err, ap, ◌∙◌, arith}
 use Rattle.board.specs.Face.{rack_in}
 use Rattle.sheets.specs.Grants.{out_among, grants_out, sheet_text}
-use Rattle.sheets.proofs.Texts.{sheet_sum, written, unwritten}
+use Rattle.sheets.proofs.Texts.{sheet_sum, unwritten}
 use Rattle.sheets.proofs.Trips.{rack_back, rack_short}
 use Rattle.sheets.proofs.write.write_sheet.Goals as goal
 
@@ -21,13 +20,5 @@ returns-then-page-sheet_len c =
     let w = unwritten c.args.page.now text (omega (arith, c.sheet_len.ensures, c.if-page-sheet_len.true)) in
     record { answer = ap Err c.into.ensures ∙ w.0; page = w.1; reads_back = rack_back (rack_in c.args.board.now) c.tickets-tickets.ensures.reached }
 
-pub returns : goal.returns
-returns c =
-    let text = sheet_text (grants_out (rack_in c.args.board.now)) in
-    let same : sheet_text (out_among c.tickets-tickets.result.now) ≡ text = ap (λ ts. sheet_text (out_among ts)) c.tickets-tickets.ensures.tickets in
-    let long = sheet_sum c.tickets-tickets.result.now in
-    let w =
-    written c.args.page.now text c.put_sheet.new.page c.put_sheet.result
-    (omega (arith, ap length same, c.sheet_len.ensures, c.if-page-sheet_len.false))
-    (subst (λ xs. Puts c.args.page.now 0 xs c.put_sheet.new.page c.put_sheet.result) same c.put_sheet.ensures) in
-    record { answer = w.0; page = w.1; reads_back = rack_back (rack_in c.args.board.now) c.tickets-tickets.ensures.reached }
+pub returns-clause-reads_back : goal.returns-clause-reads_back
+returns-clause-reads_back c = rack_back (rack_in c.args.board.now) c.tickets-tickets.ensures.reached
