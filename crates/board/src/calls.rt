@@ -10,7 +10,7 @@ ghost use Rattle.board.specs.Reading.{rack_of};
 use crate::board::Board;
 use crate::tables::Tables;
 use rules::rack::{
-    LAST_FIRST, LAST_NUMBER, LONGEST, MOST_COLUMNS, MOST_LEAD, MOST_PLACES, MOST_ROWS, Sizes,
+    LAST_FIRST, LAST_NUMBER, LONGEST_SPAN, MOST_COLUMNS, MOST_LEAD, MOST_PLACES, MOST_ROWS, Sizes,
 };
 use rules::refusal::Refusal;
 use rules::slot::Slot;
@@ -47,7 +47,7 @@ impl Tables {
         ensures { result ≡ unless (admitted (rack_of self.now) request) }
     {
         let end = u64::from(request.start) + u64::from(request.length);
-        if !((1..=LONGEST).contains(&request.length) && end <= u64::from(self.sizes.columns)) {
+        if !((1..=LONGEST_SPAN).contains(&request.length) && end <= u64::from(self.sizes.columns)) {
             return Err(Refusal::Columns);
         }
         if self.next > LAST_NUMBER {
@@ -117,10 +117,7 @@ impl Board {
                     ..t
                 };
                 self.tables.replace(i, t, Some(out));
-                Ok(Some(Span {
-                    first: t.first,
-                    length: t.request.length,
-                }))
+                Ok(Some(t.window()))
             }
             Phase::Without => {
                 self.tables.replace(i, t, None);

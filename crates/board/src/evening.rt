@@ -17,7 +17,7 @@ const ROWS: usize = MOST_ROWS as usize;
 
 /// Picks the vacant row that it has picked least often, the lower one on ties. A tally stops at
 /// 65,535.
-#[derive(Clone, Copy)]
+#[derive(Clone, Copy, Default)]
 pub struct Evening {
     tallies: [u16; ROWS],
 }
@@ -27,7 +27,7 @@ impl Evening {
     pub fn new() -> Evening
         ensures { result ≡ record { tallies = replicate 16 0 } }
     {
-        Evening { tallies: [0; ROWS] }
+        Evening::default()
     }
 
     // The vacant rows with their tallies.

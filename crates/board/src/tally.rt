@@ -5,7 +5,7 @@ ghost use Rattle.std.proofs.Common.{rules};
 use lists::foremost::Ranked;
 
 // How often a row was picked.
-#[derive(Clone, Copy, Default)]
+#[derive(Clone, Copy, PartialEq, Eq, PartialOrd, Ord, Default)]
 pub struct RowTally {
     pub count: u16,
     pub row: u32,
@@ -19,6 +19,6 @@ impl Ranked for RowTally {
     ghost transitive = { Prim.search rules };
 
     fn stands_before(&self, other: &Self) -> bool {
-        (self.count, self.row) <= (other.count, other.row)
+        self <= other
     }
 }

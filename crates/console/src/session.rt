@@ -10,7 +10,7 @@ pub use text::fault::LineFault;
 use text::page::write_no;
 
 /// How many lines were read, and how many of them were refused. A count that is as large as it can be stays.
-#[derive(Clone, Copy, PartialEq, Eq, Debug)]
+#[derive(Clone, Copy, PartialEq, Eq, Debug, Default)]
 pub struct Session {
     pub lines: u64,
     pub refusals: u64,
@@ -20,10 +20,7 @@ impl Session {
     pub fn new() -> Session
         ensures { result ≡ new_session }
     {
-        Session {
-            lines: 0,
-            refusals: 0,
-        }
+        Session::default()
     }
 
     /// Answers a line on the page, and tells how long the answer is; no line is given if it is too long to keep.

@@ -40,7 +40,11 @@ impl Reply {
                 put_line(page, 0, &fields)
             }
             Reply::Driven { steps, stage } => {
-                put_line(page, 0, &[ok, steps.into(), Field::Word(stage.word())])
+                put_line(
+                    page,
+                    0,
+                    &[ok, steps.into(), Field::Word(stage.word().as_bytes())],
+                )
             }
             Reply::Collected { number, span: None } => {
                 put_line(page, 0, &[ok, number.into(), Field::Word(b"none")])

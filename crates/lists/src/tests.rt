@@ -26,7 +26,7 @@ impl Ranked for Key {
 }
 
 // By count, then by row.
-#[derive(Clone, Copy)]
+#[derive(Clone, Copy, PartialEq, Eq, PartialOrd, Ord)]
 pub struct Tally {
     count: u16,
     row: u8,
@@ -40,7 +40,7 @@ impl Ranked for Tally {
     ghost transitive = { Prim.search rules };
 
     fn stands_before(&self, other: &Self) -> bool {
-        (self.count, self.row) <= (other.count, other.row)
+        self <= other
     }
 }
 

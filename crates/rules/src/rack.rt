@@ -13,7 +13,7 @@ pub const MOST_PLACES: u32 = 64;
 pub const MOST_LEAD: u32 = 64;
 
 /// The most columns that a booking can ask for.
-pub const LONGEST: u32 = 64;
+pub const LONGEST_SPAN: u32 = 64;
 
 /// The largest number that an opening can begin with.
 pub const LAST_FIRST: u32 = 1_000_000_000;

@@ -6,6 +6,7 @@ ghost use Rattle.rules.specs.Step.{is_forward, retreats};
 ghost use Rattle.rules.specs.Order.{ticket_before};
 ghost use Rattle.std.proofs.Common.{rules};
 
+use crate::span::Span;
 use lists::foremost::Ranked;
 
 /// What a booking asks for: `length` adjacent columns, none before `start`.
@@ -34,16 +35,16 @@ pub enum Stage {
 
 impl Stage {
     /// The word that answers use.
-    pub fn word(self) -> &'static [u8]
+    pub fn word(self) -> &'static str
         ensures { result.now ≡ stage_word self }
     {
         match self {
-            Stage::Seeking => b"seeking",
-            Stage::Without => b"without",
-            Stage::Granted => b"granted",
-            Stage::Out => b"out",
-            Stage::Closing => b"closing",
-            Stage::Idle => b"idle",
+            Stage::Seeking => "seeking",
+            Stage::Without => "without",
+            Stage::Granted => "granted",
+            Stage::Out => "out",
+            Stage::Closing => "closing",
+            Stage::Idle => "idle",
         }
     }
 }
@@ -112,6 +113,18 @@ pub struct Ticket {
     pub first: u32,
     pub marks: u32,
     pub seen: u32,
+}
+
+impl Ticket {
+    /// The window of a ticket that is granted or out.
+    pub fn window(self) -> Span
+        ensures { result ≡ record { first = self.first; length = self.request.length } }
+    {
+        Span {
+            first: self.first,
+            length: self.request.length,
+        }
+    }
 }
 
 /// Soft tickets first, then by number: the foremost one is the oldest soft ticket, if any is soft.

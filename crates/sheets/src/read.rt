@@ -4,7 +4,7 @@ ghost use Rattle.sheets.specs.Sheets.{in_limits, grant_read, numbered, sheet_rea
 
 use crate::grant::{GrantLine, GrantWord};
 use crate::lines::Lines;
-use rules::rack::{LAST_NUMBER, LONGEST, MOST_COLUMNS};
+use rules::rack::{LAST_NUMBER, LONGEST_SPAN, MOST_COLUMNS};
 use rules::refusal::Refusal;
 use rules::span::Span;
 use text::fault::{Fault, LineFault};
@@ -17,7 +17,7 @@ fn check_grant(grant: GrantLine, last: u32) -> Result<GrantLine, Fault>
     if grant.number <= last || grant.number > LAST_NUMBER {
         return Err(Fault::new(Refusal::Grant, 2, 0));
     }
-    if grant.span.length < 1 || grant.span.length > LONGEST {
+    if grant.span.length < 1 || grant.span.length > LONGEST_SPAN {
         return Err(Fault::new(Refusal::Grant, 4, 0));
     }
     if grant.span.first > MOST_COLUMNS - grant.span.length {

@@ -9,7 +9,6 @@ use crate::grant::GrantLine;
 use board::board::Board;
 use itoa::Buffer;
 use rules::refusal::Refusal;
-use rules::span::Span;
 use rules::ticket::{Phase, Ticket};
 use text::fault::Fault;
 use text::page::{Field, put_line};
@@ -18,12 +17,10 @@ use text::page::{Field, put_line};
 fn grant_of(ticket: Ticket) -> Option<GrantLine>
     ensures { result ≡ grant_told ticket }
 {
-    let span = Span {
-        first: ticket.first,
-        length: ticket.request.length,
-    };
-    let number = ticket.number;
-    matches!(ticket.phase, Phase::Out).then_some(GrantLine { number, span })
+    matches!(ticket.phase, Phase::Out).then_some(GrantLine {
+        number: ticket.number,
+        span: ticket.window(),
+    })
 }
 
 /// How many digits a figure has.

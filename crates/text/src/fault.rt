@@ -36,12 +36,12 @@ impl From<Refusal> for Layer {
 
 impl Layer {
     /// The word that answers use.
-    pub fn word(self) -> &'static [u8]
+    pub fn word(self) -> &'static str
         ensures { result.now ≡ layer_word self }
     {
         match self {
-            Layer::Line => b"line",
-            Layer::Board => b"board",
+            Layer::Line => "line",
+            Layer::Board => "board",
         }
     }
 }

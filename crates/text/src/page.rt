@@ -65,10 +65,10 @@ impl Writer<'_> {
 }
 
 /// What stands before the field at this place of a line.
-fn gap_before(place: usize) -> &'static [u8]
+fn gap_before(place: usize) -> &'static str
     ensures { result.now ≡ gap place }
 {
-    if place == 0 { b"" } else { b"\t" }
+    if place == 0 { "" } else { "\t" }
 }
 
 /// Writes a line: the fields, with a tab between any two, and the line feed.
@@ -78,7 +78,7 @@ pub fn put_line(page: &mut [u8], at: usize, fields: &[Field]) -> usize
 {
     let mut writer = Writer { page, at };
     for (i, field) in fields.iter().enumerate() {
-        writer.put(gap_before(i));
+        writer.put(gap_before(i).as_bytes());
         writer.put_field(*field);
     }
     writer.put(b"\n");
@@ -113,7 +113,7 @@ fn fault_fields(fault: Fault) -> [Field<'static>; 3]
     ensures short { length (line_of (fault_fields fault)) ≤ 20 }
 {
     [
-        Field::Word(fault.layer().word()),
+        Field::Word(fault.layer().word().as_bytes()),
         fault.refusal.number().into(),
         fault.field.into(),
     ]

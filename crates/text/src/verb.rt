@@ -20,18 +20,18 @@ pub enum Verb {
 
 impl Verb {
     /// The verb's word, the first field of its line.
-    pub fn word(self) -> &'static [u8]
+    pub fn word(self) -> &'static str
         ensures { result.now ≡ verb_word self }
     {
         match self {
-            Verb::Open => b"open",
-            Verb::Book => b"book",
-            Verb::Step => b"step",
-            Verb::Drive => b"drive",
-            Verb::Collect => b"collect",
-            Verb::Drop => b"drop",
-            Verb::Back => b"back",
-            Verb::Show => b"show",
+            Verb::Open => "open",
+            Verb::Book => "book",
+            Verb::Step => "step",
+            Verb::Drive => "drive",
+            Verb::Collect => "collect",
+            Verb::Drop => "drop",
+            Verb::Back => "back",
+            Verb::Show => "show",
         }
     }
 }

@@ -9,7 +9,7 @@ loop-i-preserved c =
     let w = c.loop-i.writer in
     let again =
     line_again c.args.fields.now c.loop-i.i blank c.loop-i-test.true c.loop-i.invariant.puts c.loop-i.invariant.left
-    (subst (λ xs. Puts w.page.now w.at xs c.put.new.self.page.now c.put.new.self.at) c.gap_before.ensures c.put.ensures.text)
+    (subst (λ xs. Puts w.page.now w.at xs c.put.new.self.page.now c.put.new.self.at) (c.as_bytes.ensures.value ∙ c.gap_before.ensures) c.put.ensures.text)
     c.put_field.ensures.text in
     record {
       text = again.0;
