@@ -39,11 +39,6 @@ abbrev pub Named : Rack → ℕ → Result (ℕ × Ticket) Refusal → Type 0
 Named r n (Err e) = (e ≡ refusal.Unknown) × (find (named n) r.tickets ≡ None)
 Named r n (Ok p) = (p.0 < length r.tickets) × (p.1 ≡ ticket_at r p.0) × (find (named n) r.tickets ≡ Some p.1)
 
--- the place found before, or else this one
-abbrev pub first_of : Option ℕ → ℕ → Option ℕ
-first_of None i = Some i
-first_of (Some j) i = Some j
-
 -- a step looks at the column ahead of a forward ticket that lacks marks and whose window lies within the board
 abbrev pub looks : Rack → Ticket → Bool
 looks r t = is_forward t.phase && (nat_lt t.marks t.request.length && not (past r.sizes t))

@@ -12,20 +12,20 @@ use std::io::BufWriter;
 
 /// The session, and the journal that its faults are noted in.
 #[derive(Drop)]
-struct Noting<'a, 'b> {
+struct Noting<'a> {
     session: Session,
-    faults: &'a mut Journal<'b, LineFault>,
+    faults: Journal<'a, LineFault>,
 }
 
-impl Handler for Noting<'_, '_> {
-    ghost noted = { λ s. entries_of s.faults.now };
+impl Handler for Noting<'_> {
+    ghost noted = { λ s. entries_of s.faults };
 
     ghost read = { λ s. s.session.lines };
 
     ghost refused = { λ s. s.session.refusals };
 
     fn handle(&mut self, line: Option<&[u8]>, page: &mut [u8]) -> Result<usize, Fault> {
-        self.session.handle(line, page, self.faults)
+        self.session.handle(line, page, &mut self.faults)
     }
 
     fn faults(&self) -> &[LineFault] {
@@ -43,10 +43,9 @@ impl Handler for Noting<'_, '_> {
 
 fn main(rt: HostRuntime) -> io::Result<()> {
     let mut places = [LineFault::blank(); FAULTS];
-    let mut faults = Journal::new(&mut places);
     let noting = Noting {
         session: Session::new(),
-        faults: &mut faults,
+        faults: Journal::new(&mut places),
     };
     let mut desk = Desk::new(noting, BufWriter::new(rt.alloc(), rt.stdout())?);
     let mut block = [0; BLOCK];

@@ -19,21 +19,22 @@ const REPORTS: usize = 4096;
 
 /// The session, and the journals of the last line's reports and of the faults.
 #[derive(Drop)]
-struct Noting<'a, 'b, 'c, 'd> {
+struct Noting<'a, 'b> {
     session: Session<Lowest>,
-    reports: &'a mut Journal<'b, Report>,
-    faults: &'c mut Journal<'d, LineFault>,
+    reports: Journal<'a, Report>,
+    faults: Journal<'b, LineFault>,
 }
 
-impl Handler for Noting<'_, '_, '_, '_> {
-    ghost noted = { λ s. entries_of s.faults.now };
+impl Handler for Noting<'_, '_> {
+    ghost noted = { λ s. entries_of s.faults };
 
     ghost read = { λ s. s.session.lines };
 
     ghost refused = { λ s. s.session.refusals };
 
     fn handle(&mut self, line: Option<&[u8]>, page: &mut [u8]) -> Result<usize, Fault> {
-        self.session.handle(self.reports, self.faults, line, page)
+        self.session
+            .handle(&mut self.reports, &mut self.faults, line, page)
     }
 
     fn faults(&self) -> &[LineFault] {
@@ -51,13 +52,11 @@ impl Handler for Noting<'_, '_, '_, '_> {
 
 fn main(rt: HostRuntime) -> io::Result<()> {
     let mut steps = [Report::default(); REPORTS];
-    let mut reports = Journal::new(&mut steps);
     let mut places = [LineFault::blank(); FAULTS];
-    let mut faults = Journal::new(&mut places);
     let noting = Noting {
         session: Session::new(Board::new(rt.alloc())?, Lowest),
-        reports: &mut reports,
-        faults: &mut faults,
+        reports: Journal::new(&mut steps),
+        faults: Journal::new(&mut places),
     };
     let mut desk = Desk::new(noting, BufWriter::new(rt.alloc(), rt.stdout())?);
     let mut block = [0; BLOCK];

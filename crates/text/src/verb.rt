@@ -2,7 +2,7 @@
 ghost use Rattle.std.specs.Prelude.{◌≡◌};
 ghost use Rattle.text.specs.Verbs.{verb_word, verb_figures, verb_of, Names};
 
-use crate::figures::Figures;
+pub use crate::figures::Figures;
 use crate::head::Head;
 
 /// What a line asks for.
