@@ -73,7 +73,7 @@ impl Fault {
     }
 }
 
-/// What the board refuses is a fault of no field.
+/// A refusal that names no field.
 impl From<Refusal> for Fault {
     ghost from_gives = { λ refusal fault. fault ≡ fault_of refusal 0 0 };
 

@@ -52,9 +52,7 @@ pub fn read_line<H: Head>(line: &[u8]) -> Result<(H, [u32; MOST_FIGURES]), Fault
     }
     let found = count_fields(line) as u32;
     let (first, _rest) = next_field(line);
-    let Some(head) = head_of::<H>(first) else {
-        return Err(Fault::new(Refusal::Verb, 1, found));
-    };
+    let head = head_of::<H>(first).ok_or(Fault::new(Refusal::Verb, 1, found))?;
     if !head.figures().allow(found - 1) {
         return Err(Fault::new(Refusal::Fields, 1, found));
     }

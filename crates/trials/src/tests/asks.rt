@@ -44,12 +44,16 @@ pub(super) enum Said {
 /// An answer, or why there is none.
 pub(super) type Heard = Result<Said, Refusal>;
 
-fn told(report: Report) -> Said {
-    Said::Told(report.number, report.action, report.column, report.row)
+impl From<Report> for Said {
+    fn from(report: Report) -> Said {
+        Said::Told(report.number, report.action, report.column, report.row)
+    }
 }
 
-fn window(found: Option<Span>) -> Said {
-    Said::Window(found.map(|span| (span.first, span.length)))
+impl From<Option<Span>> for Said {
+    fn from(found: Option<Span>) -> Said {
+        Said::Window(found.map(|span| (span.first, span.length)))
+    }
 }
 
 // A drive with a journal of so many places, 64 at most.
@@ -83,9 +87,9 @@ pub(super) fn hear(board: &mut Board, ask: Ask) -> Heard {
             board.open(sizes, first).map(|()| Said::Done)
         }
         Ask::Book(start, length) => board.book(Request { start, length }).map(Said::Figure),
-        Ask::Step(number) => board.step(number, &mut Lowest).map(told),
+        Ask::Step(number) => board.step(number, &mut Lowest).map(Said::from),
         Ask::Drive(number, budget, room) => drive(board, number, budget, room),
-        Ask::Collect(number) => board.collect(number).map(window),
+        Ask::Collect(number) => board.collect(number).map(Said::from),
         Ask::Withdraw(number) => board.withdraw(number).map(|()| Said::Done),
         Ask::Back(number) => board.back(number).map(|()| Said::Done),
         Ask::Row(number, offset) => board.row(number, offset).map(Said::Figure),
