@@ -122,7 +122,7 @@ RULES = {
     ],
     4: [
         ("fn", r"\A.*fn (stands_before|cmp|partial_cmp|lt|le)\b", "order"),
-        ("fn", r"\A.*&'static(.|\n)*=> b\"", "printing: an enum to its word"),
+        ("fn", r"\A.*&'static(.|\n)*=> b?\"", "printing: an enum to its word"),
         ("fn", r"'0' \+|\bn / 10\)", "printing: digits"),
         ("fn", r"(\w+::\w+ => \d+,\s*){3}", "conversion: an enum to its number"),
         ("fn", r"b\"\w+\" => Some|== b\"\w+\"", "conversion: a text to an enum"),
@@ -133,7 +133,7 @@ RULES = {
         ("fn", r"matches!\([\w.()]+, \w+::\w+\)", "equality: one case asked by matches!"),
         ("fn", r"(\w+)\.(\w+)(\.\w+\(\))? == (\w+)\.\2\b(.|\n)*&& (\w+)\.(\w+)(\.\w+\(\))? == ", "equality: field by field"),
         ("fn", r"\A[^&]*\n(.|\n)*\b(\w+): (self|t)\.\2,(?!\n *length)", "copying: field by field"),
-        ("fn", r"\A.*fn (new|blank|no_\w+)\(\) -> |= \[Report \{", "a value that is Default"),
+        ("fn", r"\A.*fn (new|blank|no_\w+)\(\) -> .*\n(?! *\w+::default\(\))|= \[Report \{", "a value that is Default"),
     ],
     6: [
         ("struct", r"\blen: usize", "a buffer with its length beside it"),
@@ -146,7 +146,7 @@ RULES = {
         ("fn", r"\A(?!.* at: usize).*\b(page|list): &mut \[.* -> .*usize", "a buffer lent, its new length as the result"),
         ("fn", r"\A.*(&'static \[u8\]|\bword: &\[u8\])", "a word as bytes"),
         ("fn", r"for .*\{\n\s*if \w+\.number == number \{\n\s*return", "a list by number searched by hand"),
-        ("fn", r"wrapping_mul\(self\.(rack\.)?rows\)|as usize \* (self\.)?rows", "a place computed from column and row"),
+        ("fn", r"wrapping_mul\(self\.(rack\.|sizes\.)?rows\)|as usize \* (self\.)?(sizes\.)?rows", "a place computed from column and row"),
     ],
     7: [
         ("fn", r"match .*\{\n(( +[A-Z\d_].*=> (\{\s*)?(let _ = |[\w:]+\()*((self|board)\.[\w.]+\(|\w+\(.*\b(board|page)\b)(.|\n)*?){3,})\n +\}",
@@ -221,7 +221,7 @@ def by_hand(var, over, body):
     once = re.sub(r"\s+", " ", body).strip()
     if "enumerate()" in over and index.startswith("_"):
         return "an index that is not used"
-    if "enumerate()" in over and re.search(rf"\b(return|Some\(|= ).*\b{index}\b", body):
+    if "enumerate()" in over and re.search(rf"(\breturn|\bSome\(| = ).*\b{index}\b", body):
         return "an index to find a place"
     if ".." in over and re.search(rf"\[{index}\b|get(_mut)?\({index}\b", body):
         return "an index into a list"
