@@ -136,7 +136,7 @@ impl Ranked for Ticket {
     ghost transitive = { Prim.search rules };
 
     fn stands_before(&self, other: &Self) -> bool {
-        // two tuples compared here take a step a fifth more time
+        // two tuples compared here make a step on a crowded rack slower
         if self.phase.is_soft() == other.phase.is_soft() {
             self.number <= other.number
         } else {
