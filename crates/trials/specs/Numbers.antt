@@ -4,7 +4,7 @@ use Rattle.rules.specs.declared.slot.Slot.{Slot}
 use Rattle.rules.specs.declared.ticket.Request.{Request}
 use Rattle.rules.specs.declared.ticket.Ticket.{Ticket}
 use Rattle.rules.specs.declared.refusal.Refusal.TheVariants as refusal
-use Rattle.rules.specs.Rack.{Rack, opened}
+use Rattle.rules.specs.Rack.{Rack}
 use Rattle.rules.specs.Calls.{book, open', ticket_for, accepted, refused}
 
 -- a request for so many columns from the first column on
