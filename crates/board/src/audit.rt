@@ -1,5 +1,6 @@
 //! Turns played on a board just opened, and the accounts of what they told.
 ghost use Rattle.std.specs.Prelude.{◌≡◌, ◌+◌, ◌≤◌, length, Ok};
+ghost use Rattle.lists.specs.Reading.{contents_of};
 ghost use Rattle.rules.specs.Lists.{count_of};
 ghost use Rattle.rules.specs.Rack.{seeking, hard};
 ghost use Rattle.board.specs.declared.audit.Accounts.{Accounts};
@@ -45,10 +46,11 @@ pub struct Accounts {
 
 /// Plays a turn; answers how many bookings it withdrew: one or none.
 fn play<C: Chooser>(board: &mut Board, turn: &mut Turn<C>, journal: &mut Journal<Report>) -> u32
-    ensures withdrew { result ≡ count_of is_drop (turned C.Chooser.meaning (rack_in board.old) journal.old turn.old).events }
-    ensures rack { rack_in board.new ≡ (turned C.Chooser.meaning (rack_in board.old) journal.old turn.old).rack }
-    ensures turn { turn.new ≡ used C.Chooser.meaning (rack_in board.old) journal.old turn.old }
-    ensures journal { journal.new ≡ (turned C.Chooser.meaning (rack_in board.old) journal.old turn.old).journal }
+    ensures withdrew { result ≡ count_of is_drop (turned C.Chooser.meaning (rack_in board.old) (contents_of journal.old) turn.old).events }
+    ensures rack { rack_in board.new ≡ (turned C.Chooser.meaning (rack_in board.old) (contents_of journal.old) turn.old).rack }
+    ensures turn { turn.new ≡ used C.Chooser.meaning (rack_in board.old) (contents_of journal.old) turn.old }
+    ensures journal { contents_of journal.new ≡ (turned C.Chooser.meaning (rack_in board.old) (contents_of journal.old) turn.old).journal }
+    ensures place { journal.new.slots.ghost_name ≡ journal.old.slots.ghost_name }
 {
     match turn.call {
         Call::Book(request) => {
@@ -121,11 +123,12 @@ pub fn audit<C: Chooser>(
     turns: &mut [Turn<C>],
     journal: &mut Journal<Report>,
 ) -> Result<Accounts, Refusal>
-    ensures answer { result ≡ (audited C.Chooser.meaning (rack_in board.old) sizes first journal.old turns.old).answer }
-    ensures rack { rack_in board.new ≡ (audited C.Chooser.meaning (rack_in board.old) sizes first journal.old turns.old).rack }
-    ensures turns { turns.new ≡ (audited C.Chooser.meaning (rack_in board.old) sizes first journal.old turns.old).turns }
-    ensures journal { journal.new ≡ (audited C.Chooser.meaning (rack_in board.old) sizes first journal.old turns.old).journal }
-    ensures history { (a : Accounts) → result ≡ Ok a → Accounted (history_of C.Chooser.meaning sizes first journal.old turns.old) (rack_in board.new) a }
+    ensures answer { result ≡ (audited C.Chooser.meaning (rack_in board.old) sizes first (contents_of journal.old) turns.old).answer }
+    ensures rack { rack_in board.new ≡ (audited C.Chooser.meaning (rack_in board.old) sizes first (contents_of journal.old) turns.old).rack }
+    ensures turns { turns.new ≡ (audited C.Chooser.meaning (rack_in board.old) sizes first (contents_of journal.old) turns.old).turns }
+    ensures journal { contents_of journal.new ≡ (audited C.Chooser.meaning (rack_in board.old) sizes first (contents_of journal.old) turns.old).journal }
+    ensures place { journal.new.slots.ghost_name ≡ journal.old.slots.ghost_name }
+    ensures history { (a : Accounts) → result ≡ Ok a → Accounted (history_of C.Chooser.meaning sizes first (contents_of journal.old) turns.old) (rack_in board.new) a }
 {
     board.open(sizes, first)?;
     let mut withdrawn = 0;

@@ -2,6 +2,8 @@
 use Rattle.std.specs.Prelude.{ℕ, cond, List, length, Option, Result, nat_lt}
 use Rattle.std.specs.Borrow.{Bor}
 use Rattle.std.specs.Option.{option_map}
+use Rattle.lists.specs.declared.journal.Journal.{Journal}
+use Rattle.lists.specs.Reading.{contents_of}
 use Rattle.lists.specs.Contents.{Contents, pushed}
 use Rattle.text.specs.Counts.{counted}
 use Rattle.text.specs.declared.fault.Fault.{Fault}
@@ -35,5 +37,5 @@ handled line page session faults =
     }
 
 -- the same, of the arguments of the call: the line is still behind its reference
-abbrev pub handled_at : Option (Bor (List ℕ)) → List ℕ → Session → Contents LineFault → Handled
-handled_at line page session faults = handled (option_map (λ x. x.now) line) page session faults
+abbrev pub handled_at : Option (Bor (List ℕ)) → List ℕ → Session → Journal LineFault → Handled
+handled_at line page session faults = handled (option_map (λ x. x.now) line) page session (contents_of faults)

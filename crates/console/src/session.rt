@@ -1,5 +1,6 @@
 //! One line after another: each is answered, counted, and its fault noted.
 ghost use Rattle.std.specs.Prelude.{◌≡◌, ◌≤◌, IfOk};
+ghost use Rattle.lists.specs.Reading.{contents_of};
 ghost use Rattle.text.specs.Pages.{shortest};
 ghost use Rattle.console.specs.Sessions.{new_session, handled_at};
 
@@ -35,7 +36,8 @@ impl Session {
         ensures fits { IfOk result (λ n. n ≤ shortest) }
         ensures page { page.new ≡ (handled_at line.entry page.old self.old faults.old).page }
         ensures session { self.new ≡ (handled_at line.entry page.old self.old faults.old).session }
-        ensures faults { faults.new ≡ (handled_at line.entry page.old self.old faults.old).faults }
+        ensures faults { contents_of faults.new ≡ (handled_at line.entry page.old self.old faults.old).faults }
+        ensures place { faults.new.slots.ghost_name ≡ faults.old.slots.ghost_name }
     {
         let Err(fault) = read_line(line);
         let len = write_no(page, fault)?;

@@ -1,6 +1,8 @@
 -- What the handling of one line makes of page, board, chooser, journals and counters.
 use Rattle.std.specs.Prelude.{◌≡◌, ℕ, cond, List, [], length, Some, None, Ok, Err, Option, Result, nat_lt}
 use Rattle.lists.specs.Contents.{Contents, cleared, pushed}
+use Rattle.lists.specs.Reading.{contents_of}
+use Rattle.lists.specs.declared.journal.Journal.{Journal}
 use Rattle.rules.specs.declared.refusal.Refusal.TheVariants as refusal
 use Rattle.rules.specs.declared.report.Report.{Report}
 use Rattle.rules.specs.Rack.{Rack}
@@ -26,9 +28,9 @@ pub record Desk (S : Type 0) : Type 0 where
   pub lines : ℕ
   pub refusals : ℕ
 
-abbrev pub desk_of : {S : Type 0} → Session S → Contents Report → Contents LineFault → Desk S
+abbrev pub desk_of : {S : Type 0} → Session S → Journal Report → Journal LineFault → Desk S
 desk_of s reports faults =
-    record { rack = rack_in s.board; held = s.chooser; reports = reports; faults = faults; lines = s.lines; refusals = s.refusals }
+    record { rack = rack_in s.board; held = s.chooser; reports = contents_of reports; faults = contents_of faults; lines = s.lines; refusals = s.refusals }
 
 -- the desk after a line was answered, before it is counted
 abbrev pub desk_after : {S : Type 0} → Desk S → Answered S → Desk S

@@ -1,5 +1,6 @@
 //! An order carried out on the board.
 ghost use Rattle.std.specs.Prelude.{◌≡◌};
+ghost use Rattle.lists.specs.Reading.{contents_of};
 ghost use Rattle.board.specs.Face.{rack_in};
 ghost use Rattle.console_next.specs.Calls.{called, Continues};
 
@@ -18,11 +19,12 @@ pub(crate) fn call<C: Chooser>(
     journal: &mut Journal<Report>,
     order: Order,
 ) -> Result<Reply, Refusal>
-    ensures reply { result ≡ (called C.Chooser.meaning (rack_in board.old) journal.old chooser.old order).reply }
-    ensures rack { rack_in board.new ≡ (called C.Chooser.meaning (rack_in board.old) journal.old chooser.old order).rack }
-    ensures chooser { chooser.new ≡ (called C.Chooser.meaning (rack_in board.old) journal.old chooser.old order).held }
-    ensures journal { journal.new ≡ (called C.Chooser.meaning (rack_in board.old) journal.old chooser.old order).journal }
-    ensures history { Continues (called C.Chooser.meaning (rack_in board.old) journal.old chooser.old order).tells (rack_in board.old) (rack_in board.new) }
+    ensures reply { result ≡ (called C.Chooser.meaning (rack_in board.old) (contents_of journal.old) chooser.old order).reply }
+    ensures rack { rack_in board.new ≡ (called C.Chooser.meaning (rack_in board.old) (contents_of journal.old) chooser.old order).rack }
+    ensures chooser { chooser.new ≡ (called C.Chooser.meaning (rack_in board.old) (contents_of journal.old) chooser.old order).held }
+    ensures journal { contents_of journal.new ≡ (called C.Chooser.meaning (rack_in board.old) (contents_of journal.old) chooser.old order).journal }
+    ensures place { journal.new.slots.ghost_name ≡ journal.old.slots.ghost_name }
+    ensures history { Continues (called C.Chooser.meaning (rack_in board.old) (contents_of journal.old) chooser.old order).tells (rack_in board.old) (rack_in board.new) }
 {
     match order {
         Order::Open { sizes, first } => {

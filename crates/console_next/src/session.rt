@@ -2,6 +2,7 @@
 ghost use Rattle.std.specs.Prelude.{◌≡◌, ◌≤◌, true, length, is_ok, IfOk, Ok};
 ghost use Rattle.std.specs.Option.{option_map};
 ghost use Rattle.lists.specs.Contents.{pushed};
+ghost use Rattle.lists.specs.Reading.{contents_of};
 ghost use Rattle.board.specs.Face.{rack_in};
 ghost use Rattle.text.specs.Pages.{shortest, no_line, over};
 ghost use Rattle.console_next.specs.Calls.{Continues};
@@ -47,14 +48,15 @@ impl<C: Chooser> Session<C> {
         line: Option<&[u8]>,
         page: &mut [u8],
     ) -> Result<usize, Fault>
-        ensures answer { result ≡ (line_answered C.Chooser.meaning (option_map (λ x. x.now) line.entry) page.old (rack_in self.old.board) reports.old self.old.chooser).answer }
-        ensures page { page.new ≡ (line_answered C.Chooser.meaning (option_map (λ x. x.now) line.entry) page.old (rack_in self.old.board) reports.old self.old.chooser).page }
-        ensures rack { rack_in self.new.board ≡ (line_answered C.Chooser.meaning (option_map (λ x. x.now) line.entry) page.old (rack_in self.old.board) reports.old self.old.chooser).rack }
-        ensures chooser { self.new.chooser ≡ (line_answered C.Chooser.meaning (option_map (λ x. x.now) line.entry) page.old (rack_in self.old.board) reports.old self.old.chooser).held }
-        ensures reports { reports.new ≡ (line_answered C.Chooser.meaning (option_map (λ x. x.now) line.entry) page.old (rack_in self.old.board) reports.old self.old.chooser).journal }
+        ensures answer { result ≡ (line_answered C.Chooser.meaning (option_map (λ x. x.now) line.entry) page.old (rack_in self.old.board) (contents_of reports.old) self.old.chooser).answer }
+        ensures page { page.new ≡ (line_answered C.Chooser.meaning (option_map (λ x. x.now) line.entry) page.old (rack_in self.old.board) (contents_of reports.old) self.old.chooser).page }
+        ensures rack { rack_in self.new.board ≡ (line_answered C.Chooser.meaning (option_map (λ x. x.now) line.entry) page.old (rack_in self.old.board) (contents_of reports.old) self.old.chooser).rack }
+        ensures chooser { self.new.chooser ≡ (line_answered C.Chooser.meaning (option_map (λ x. x.now) line.entry) page.old (rack_in self.old.board) (contents_of reports.old) self.old.chooser).held }
+        ensures reports { contents_of reports.new ≡ (line_answered C.Chooser.meaning (option_map (λ x. x.now) line.entry) page.old (rack_in self.old.board) (contents_of reports.old) self.old.chooser).journal }
+        ensures place { reports.new.slots.ghost_name ≡ reports.old.slots.ghost_name }
         ensures lines { self.new.lines ≡ self.old.lines }
         ensures refusals { self.new.refusals ≡ self.old.refusals }
-        ensures history { Continues (line_answered C.Chooser.meaning (option_map (λ x. x.now) line.entry) page.old (rack_in self.old.board) reports.old self.old.chooser).tells (rack_in self.old.board) (rack_in self.new.board) }
+        ensures history { Continues (line_answered C.Chooser.meaning (option_map (λ x. x.now) line.entry) page.old (rack_in self.old.board) (contents_of reports.old) self.old.chooser).tells (rack_in self.old.board) (rack_in self.new.board) }
         ensures fits { IfOk result (λ n. n ≤ length page.old) }
     {
         let line = line.ok_or(Refusal::Line)?;
@@ -75,6 +77,8 @@ impl<C: Chooser> Session<C> {
         ensures answer { result ≡ (handled C.Chooser.meaning (option_map (λ x. x.now) line.entry) page.old (desk_of self.old reports.old faults.old)).answer }
         ensures page { page.new ≡ (handled C.Chooser.meaning (option_map (λ x. x.now) line.entry) page.old (desk_of self.old reports.old faults.old)).page }
         ensures desk { desk_of self.new reports.new faults.new ≡ (handled C.Chooser.meaning (option_map (λ x. x.now) line.entry) page.old (desk_of self.old reports.old faults.old)).desk }
+        ensures reports_place { reports.new.slots.ghost_name ≡ reports.old.slots.ghost_name }
+        ensures faults_place { faults.new.slots.ghost_name ≡ faults.old.slots.ghost_name }
         ensures history { Continues (handled C.Chooser.meaning (option_map (λ x. x.now) line.entry) page.old (desk_of self.old reports.old faults.old)).tells (rack_in self.old.board) (rack_in self.new.board) }
         ensures served { shortest ≤ length page.old → is_ok result ≡ true }
         ensures fits { IfOk result (λ n. n ≤ length page.old) }

@@ -3,6 +3,7 @@ ghost use Rattle.std.specs.Prelude.{◌≡◌, Some, Ok};
 ghost use Rattle.rules.specs.declared.ticket.Stage.TheVariants.{Closing};
 ghost use Rattle.rules.specs.declared.span.Span.{Span as SpanOf};
 ghost use Rattle.rules.specs.Calls.{stage_at};
+ghost use Rattle.lists.specs.Reading.{contents_of};
 ghost use Rattle.board.specs.Face.{rack_in};
 ghost use Rattle.episode.specs.Visits.{Leads, row_noted, rows_noted, visited};
 
@@ -22,7 +23,8 @@ const BUDGET: u32 = 1000;
 
 /// Enters the row that was told, if one was, while there is room.
 fn note_row(rows: &mut Journal<u32>, told: Result<u32, Refusal>)
-    ensures rows { rows.new ≡ row_noted rows.old told }
+    ensures rows { contents_of rows.new ≡ row_noted (contents_of rows.old) told }
+    ensures place { rows.new.slots.ghost_name ≡ rows.old.slots.ghost_name }
 {
     if let Ok(row) = told {
         let _ = rows.push(row);
@@ -32,7 +34,8 @@ fn note_row(rows: &mut Journal<u32>, told: Result<u32, Refusal>)
 /// Enters the row of each of the window's columns, and gives the grant back to its holder.
 fn ask_rows(board: &Board, grant: Grant, length: u32, rows: &mut Journal<u32>) -> Grant
     ensures grant { result ≡ grant }
-    ensures rows { rows.new ≡ rows_noted (rack_in board.now) grant.number length rows.old }
+    ensures rows { contents_of rows.new ≡ rows_noted (rack_in board.now) grant.number length (contents_of rows.old) }
+    ensures place { rows.new.slots.ghost_name ≡ rows.old.slots.ghost_name }
 {
     let mut held = grant;
     for offset in 0..length {
@@ -52,11 +55,13 @@ pub fn visit<C: Chooser>(
     chooser: &mut C,
     rows: &mut Journal<u32>,
 ) -> Result<Option<Span>, Refusal>
-    ensures answer { result ≡ (visited C.Chooser.meaning (rack_in board.old) request chooser.old reports.old rows.old).answer }
-    ensures rack { rack_in board.new ≡ (visited C.Chooser.meaning (rack_in board.old) request chooser.old reports.old rows.old).rack }
-    ensures chooser { chooser.new ≡ (visited C.Chooser.meaning (rack_in board.old) request chooser.old reports.old rows.old).held }
-    ensures reports { reports.new ≡ (visited C.Chooser.meaning (rack_in board.old) request chooser.old reports.old rows.old).reports }
-    ensures rows { rows.new ≡ (visited C.Chooser.meaning (rack_in board.old) request chooser.old reports.old rows.old).rows }
+    ensures answer { result ≡ (visited C.Chooser.meaning (rack_in board.old) request chooser.old (contents_of reports.old) (contents_of rows.old)).answer }
+    ensures rack { rack_in board.new ≡ (visited C.Chooser.meaning (rack_in board.old) request chooser.old (contents_of reports.old) (contents_of rows.old)).rack }
+    ensures chooser { chooser.new ≡ (visited C.Chooser.meaning (rack_in board.old) request chooser.old (contents_of reports.old) (contents_of rows.old)).held }
+    ensures reports { contents_of reports.new ≡ (visited C.Chooser.meaning (rack_in board.old) request chooser.old (contents_of reports.old) (contents_of rows.old)).reports }
+    ensures rows { contents_of rows.new ≡ (visited C.Chooser.meaning (rack_in board.old) request chooser.old (contents_of reports.old) (contents_of rows.old)).rows }
+    ensures reports_place { reports.new.slots.ghost_name ≡ reports.old.slots.ghost_name }
+    ensures rows_place { rows.new.slots.ghost_name ≡ rows.old.slots.ghost_name }
     ensures handed_back { (span : SpanOf) → result ≡ Ok (Some span) → stage_at (rack_in board.new) (rack_in board.old).next ≡ Closing }
     ensures history { Leads (rack_in board.old) (rack_in board.new) }
 {

@@ -1,6 +1,7 @@
 //! The calls by slip and by grant: each makes the numbered call, and says what became of the thing.
 ghost use Rattle.std.specs.Prelude.{◌≡◌};
 ghost use Rattle.lists.specs.Contents.{room_of, entered};
+ghost use Rattle.lists.specs.Reading.{contents_of};
 ghost use Rattle.rules.specs.Calls.{book as book_call, step as step_call, drive as drive_call, collect as collect_call, drop' as drop_call, back as back_call, row as row_call, stage_at};
 ghost use Rattle.rules.specs.History.{Event};
 ghost use Rattle.rules.specs.Laws.{told, reported, Carries};
@@ -46,11 +47,12 @@ pub fn drive<C: Chooser>(
     journal: &mut Journal<Report>,
     chooser: &mut C,
 ) -> Result<(u32, Stage), Refusal>
-    ensures answer { result ≡ (drive_call C.Chooser.meaning (rack_in board.old) slip.now.number budget (room_of journal.old) chooser.old).answer }
-    ensures rack { rack_in board.new ≡ (drive_call C.Chooser.meaning (rack_in board.old) slip.now.number budget (room_of journal.old) chooser.old).ran.rack }
-    ensures chooser { chooser.new ≡ (drive_call C.Chooser.meaning (rack_in board.old) slip.now.number budget (room_of journal.old) chooser.old).ran.held }
-    ensures journal { journal.new ≡ entered journal.old (drive_call C.Chooser.meaning (rack_in board.old) slip.now.number budget (room_of journal.old) chooser.old).ran.reports }
-    ensures history { Carries (reported (drive_call C.Chooser.meaning (rack_in board.old) slip.now.number budget (room_of journal.old) chooser.old).ran.reports) (rack_in board.old) (rack_in board.new) }
+    ensures answer { result ≡ (drive_call C.Chooser.meaning (rack_in board.old) slip.now.number budget (room_of (contents_of journal.old)) chooser.old).answer }
+    ensures rack { rack_in board.new ≡ (drive_call C.Chooser.meaning (rack_in board.old) slip.now.number budget (room_of (contents_of journal.old)) chooser.old).ran.rack }
+    ensures chooser { chooser.new ≡ (drive_call C.Chooser.meaning (rack_in board.old) slip.now.number budget (room_of (contents_of journal.old)) chooser.old).ran.held }
+    ensures journal { contents_of journal.new ≡ entered (contents_of journal.old) (drive_call C.Chooser.meaning (rack_in board.old) slip.now.number budget (room_of (contents_of journal.old)) chooser.old).ran.reports }
+    ensures place { journal.new.slots.ghost_name ≡ journal.old.slots.ghost_name }
+    ensures history { Carries (reported (drive_call C.Chooser.meaning (rack_in board.old) slip.now.number budget (room_of (contents_of journal.old)) chooser.old).ran.reports) (rack_in board.old) (rack_in board.new) }
 {
     board.drive(slip.number, budget, journal, chooser)
 }

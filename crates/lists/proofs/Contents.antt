@@ -1,5 +1,5 @@
 -- What pushes and clears make of the entries, the room and the places behind the entries.
-use Rattle.std.proofs.Common.{◌≡◌, ℕ, ◌+◌, ◌<◌, ◌≤◌, true, false, List, [], ◌∷◌, ◌++◌, length, drop, set, is_err, Ok, Err, sym, refl, ap, ◌∙◌, ⊎_elim, append_assoc, zero-add, one-add, arith}
+use Rattle.std.proofs.Common.{◌≡◌, ◌+◌, ◌<◌, ◌≤◌, true, false, List, [], ◌∷◌, ◌++◌, length, drop, set, is_err, Ok, Err, sym, refl, ap, ◌∙◌, ⊎_elim, append_assoc, zero-add, one-add, arith}
 use Rattle.std.proofs.lemmas.List.{append-nil, length-set, take-append-drop, take_more_set, drop-set-lt, drop-drop}
 use Rattle.std.proofs.lemmas.Bool.{cases_Bool, eqb-true}
 use Rattle.std.proofs.lemmas.Bool.Decides.{nat_tests}
@@ -42,7 +42,7 @@ module _ {X : Type 0} (c : Contents X) where
         ⊎_elim (λ h. rw (refused_contents h)) (λ h. rw h (length-set c.slots c.len x)) (cases_Bool (full_of c))
 
     module _ (room : full_of c ≡ false) where
-      pub pushed_contents : (pushed c x).contents ≡ record { place = c.place; slots = set c.slots c.len x; len = c.len + 1 }
+      pub pushed_contents : (pushed c x).contents ≡ record { slots = set c.slots c.len x; len = c.len + 1 }
       pushed_contents = rw room
 
       pub pushed_entries : entries_of (pushed c x).contents ≡ entries_of c ++ (x ∷ [])
@@ -110,6 +110,6 @@ module _ {X : Type 0} where
       ∙ rw (entered_entries c xs h, entered_behind c xs h, append_assoc, drop-drop)
 
   -- the same in places just lent
-  pub entered_lent : (place : ℕ) (slots xs : List X) → length xs ≤ length slots → (entered (lent place slots) xs).slots ≡ xs ++ drop (length xs) slots
-  entered_lent place slots xs h =
-      let r : length xs ≤ room_of (lent place slots) = omega arith in entered_slots (lent place slots) xs r ∙ rw zero-add
+  pub entered_lent : (slots xs : List X) → length xs ≤ length slots → (entered (lent slots) xs).slots ≡ xs ++ drop (length xs) slots
+  entered_lent slots xs h =
+      let r : length xs ≤ room_of (lent slots) = omega arith in entered_slots (lent slots) xs r ∙ rw zero-add

@@ -2,9 +2,8 @@
 use Rattle.std.specs.Prelude.{ℕ, ◌+◌, ◌-◌, Bool, cond, List, [], ◌∷◌, length, take, drop, Ok, Err, Result, ◌==◌, slice_set}
 use Rattle.lists.specs.declared.journal.Full.{Full}
 
--- All places lent to a journal, which they are (the name of the slice) and what they hold, and how many of them, from the first on, hold its entries.
+-- All places lent to a journal, and how many of them, from the first on, hold its entries.
 pub record Contents (X : Type 0) : Type 0 where
-  pub place : ℕ
   pub slots : List X
   pub len : ℕ
 
@@ -22,12 +21,12 @@ abbrev pub full_of : {X : Type 0} → Contents X → Bool
 full_of c = room_of c == 0
 
 -- places just lent: no entry yet
-abbrev pub lent : {X : Type 0} → ℕ → List X → Contents X
-lent place slots = record { place = place; slots = slots; len = 0 }
+abbrev pub lent : {X : Type 0} → List X → Contents X
+lent slots = record { slots = slots; len = 0 }
 
 -- no entries, and every place as it was
 abbrev pub cleared : {X : Type 0} → Contents X → Contents X
-cleared c = lent c.place c.slots
+cleared c = lent c.slots
 
 -- what a journal answers to an entry, and what it then holds
 pub record Pushed (X : Type 0) : Type 0 where
@@ -39,7 +38,7 @@ abbrev pub pushed : {X : Type 0} → Contents X → X → Pushed X
 pushed c x =
     cond (full_of c)
     (record { answer = Err (record {}); contents = c })
-    (record { answer = Ok tt; contents = record { place = c.place; slots = slice_set c.slots c.len x; len = c.len + 1 } })
+    (record { answer = Ok tt; contents = record { slots = slice_set c.slots c.len x; len = c.len + 1 } })
 
 -- entries pushed one after another
 abbrev pub entered : {X : Type 0} → Contents X → List X → Contents X

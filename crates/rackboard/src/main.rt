@@ -3,6 +3,7 @@
 #![tactic(auto)]
 
 ghost use Rattle.lists.specs.Contents.{entries_of};
+ghost use Rattle.lists.specs.Reading.{contents_of};
 
 use console::fault::Fault;
 use console::session::{Journal, LineFault, Session};
@@ -18,7 +19,7 @@ struct Noting<'a> {
 }
 
 impl Handler for Noting<'_> {
-    ghost noted = { λ s. entries_of s.faults };
+    ghost noted = { λ s. entries_of (contents_of s.faults) };
 
     ghost read = { λ s. s.session.lines };
 

@@ -3,6 +3,7 @@
 #![tactic(auto)]
 
 ghost use Rattle.lists.specs.Contents.{entries_of};
+ghost use Rattle.lists.specs.Reading.{contents_of};
 
 use board::board::Board;
 use board::lowest::Lowest;
@@ -26,7 +27,7 @@ struct Noting<'a, 'b> {
 }
 
 impl Handler for Noting<'_, '_> {
-    ghost noted = { λ s. entries_of s.faults };
+    ghost noted = { λ s. entries_of (contents_of s.faults) };
 
     ghost read = { λ s. s.session.lines };
 

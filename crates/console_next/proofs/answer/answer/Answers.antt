@@ -1,5 +1,6 @@
 use Rattle.std.proofs.Common.{[], Err, sym, ap, ◌∙◌, subst}
 use Rattle.std.proofs.lemmas.Result.{err_from_is_err_and, IfOk-from_err}
+use Rattle.lists.specs.Reading.{contents_of}
 use Rattle.rules.specs.Rack.{Rack}
 use Rattle.rules.specs.Laws.{Carries}
 use Rattle.board.specs.Face.{rack_in}
@@ -13,20 +14,20 @@ use Rattle.console_next.proofs.answer.answer.Goals as goal
 pub returns-in_err-check-clause-history : goal.returns-in_err-check-clause-history
 returns-in_err-check-clause-history g c =
     let x = rack_in c.args.board.now in
-    let d = too_short g.C.Chooser.meaning x c.args.journal.now c.args.chooser.now c.args.line.now c.args.page.now c.in_err-check.ensures.room.0 in
+    let d = too_short g.C.Chooser.meaning x (contents_of c.args.journal.now) c.args.chooser.now c.args.line.now c.args.page.now c.in_err-check.ensures.room.0 in
     subst (λ (a : Answered _). Continues a.tells x x) (sym d) (stays x)
 
 pub returns-in_err-order-clause-history : goal.returns-in_err-order-clause-history
 returns-in_err-order-clause-history g c =
     let x = rack_in c.args.board.now in
-    let d = misread g.C.Chooser.meaning x c.args.journal.now c.args.chooser.now c.args.line.now c.args.page.now c.in_ok-check.ensures.room _ (sym c.read_order.ensures ∙ c.in_err-order.was) in
+    let d = misread g.C.Chooser.meaning x (contents_of c.args.journal.now) c.args.chooser.now c.args.line.now c.args.page.now c.in_ok-check.ensures.room _ (sym c.read_order.ensures ∙ c.in_err-order.was) in
     subst (λ (a : Answered _). Continues a.tells x x) (sym d) (stays x)
 
 pub returns-in_err-reply : goal.returns-in_err-reply
 returns-in_err-reply g c =
     let m = g.C.Chooser.meaning in
     let x = rack_in c.args.board.now in
-    let j = c.args.journal.now in
+    let j = contents_of c.args.journal.now in
     let s = c.args.chooser.now in
     let order = c.in_ok-order.order in
     let read = sym c.read_order.ensures ∙ c.in_ok-order.was in
@@ -41,6 +42,7 @@ returns-in_err-reply g c =
       rack = rack ∙ sym (ap (λ a. a.rack) d);
       chooser = c.call.ensures.chooser ∙ same.held ∙ sym (ap (λ a. a.held) d);
       journal = c.call.ensures.journal ∙ same.journal ∙ sym (ap (λ a. a.journal) d);
+      place = c.call.ensures.place;
       fits = IfOk-from_err _ _ c.from_residual-in_err-reply.ensures.0;
       history = subst (λ (a : Answered _). Continues a.tells x (rack_in c.call.new.board)) (sym d) (subst (λ (y : Rack). Carries [] x y) (sym rack) (stays x));
     }
@@ -48,5 +50,5 @@ returns-in_err-reply g c =
 pub returns-clause-page : goal.returns-clause-page
 returns-clause-page g c =
     let reply = c.in_ok-reply.reply in
-    let d = granted g.C.Chooser.meaning (rack_in c.args.board.now) c.args.journal.now c.args.chooser.now c.args.line.now c.args.page.now c.in_ok-check.ensures.room c.in_ok-order.order (sym c.read_order.ensures ∙ c.in_ok-order.was) reply (sym c.call.ensures.reply ∙ c.in_ok-reply.was) in
+    let d = granted g.C.Chooser.meaning (rack_in c.args.board.now) (contents_of c.args.journal.now) c.args.chooser.now c.args.line.now c.args.page.now c.in_ok-check.ensures.room c.in_ok-order.order (sym c.read_order.ensures ∙ c.in_ok-order.was) reply (sym c.call.ensures.reply ∙ c.in_ok-reply.was) in
     puts_page c.args.page.now (reply_text reply) c.put.new.page c.put.result c.put.ensures ∙ sym (ap (λ a. a.page) d)

@@ -1,4 +1,5 @@
 use Rattle.std.proofs.Common.{◌≡◌}
+use Rattle.lists.specs.Reading.{contents_of}
 use Rattle.board.specs.Face.{rack_in}
 use Rattle.episode.specs.Visits.{rows_noted}
 use Rattle.episode.proofs.visit.ask_rows.Given as goal
@@ -8,5 +9,6 @@ abbrev pub invariant-loop-offset : goal.invariant-loop-offset
 invariant-loop-offset l =
     record {
       same : l.held ≡ l.initial.held;
-      entered : l.rows ≡ rows_noted (rack_in l.board) l.initial.held.number l.offset l.initial.rows;
+      entered : contents_of l.rows ≡ rows_noted (rack_in l.board) l.initial.held.number l.offset (contents_of l.initial.rows);
+      place : l.rows.slots.ghost_name ≡ l.initial.rows.slots.ghost_name;
     }

@@ -1,5 +1,6 @@
 use Rattle.std.proofs.Common.{sym, ap, ◌∙◌, subst}
 use Rattle.lists.specs.Contents.{room_of}
+use Rattle.lists.specs.Reading.{contents_of}
 use Rattle.rules.specs.Rack.{Rack}
 use Rattle.rules.specs.Calls.{drive}
 use Rattle.rules.specs.Laws.{reported, Carries}
@@ -19,7 +20,7 @@ pub returns-in_err-soft_place-clause-history : goal.returns-in_err-soft_place-cl
 returns-in_err-soft_place-clause-history g c =
     let m = g.C.Chooser.meaning in
     let x = rack_in c.args.self.now in
-    let room = room_of c.args.journal.now in
+    let room = room_of (contents_of c.args.journal.now) in
     let d = drive_none m x c.args.number c.args.budget room c.args.chooser.now _ c.in_err-soft_place.ensures in
     subst (λ (y : Rack). Carries (reported (drive m x c.args.number c.args.budget room c.args.chooser.now).ran.reports) x y) (ap (λ o. o.ran.rack) d)
     (drive_carries m g.met.C.Chooser.lawful x c.args.number c.args.budget room c.args.chooser.now)
@@ -34,7 +35,7 @@ pub returns-then-is_full-clause-history : goal.returns-then-is_full-clause-histo
 returns-then-is_full-clause-history g c =
     let m = g.C.Chooser.meaning in
     let x = rack_in c.args.self.now in
-    let room = room_of c.args.journal.now in
+    let room = room_of (contents_of c.args.journal.now) in
     let d = drive_full m x c.args.number c.args.budget room c.args.chooser.now _ c.in_ok-soft_place.ensures.2 (sym c.if-is_full.ensures) in
     subst (λ (y : Rack). Carries (reported (drive m x c.args.number c.args.budget room c.args.chooser.now).ran.reports) x y) (ap (λ o. o.ran.rack) d)
     (drive_carries m g.met.C.Chooser.lawful x c.args.number c.args.budget room c.args.chooser.now)
@@ -49,7 +50,7 @@ pub returns-clause-history : goal.returns-clause-history
 returns-clause-history g c =
     let m = g.C.Chooser.meaning in
     let x = rack_in c.args.self.now in
-    let room = room_of c.args.journal.now in
+    let room = room_of (contents_of c.args.journal.now) in
     let d = drive_runs m x c.args.number c.args.budget room c.args.chooser.now _ c.in_ok-soft_place.ensures.2 (sym c.if-is_full.ensures) in
     subst (λ (y : Rack). Carries (reported (drive m x c.args.number c.args.budget room c.args.chooser.now).ran.reports) x y) (ap (λ o. o.ran.rack) d ∙ sym c.run-made.ensures.rack)
     (drive_carries m g.met.C.Chooser.lawful x c.args.number c.args.budget room c.args.chooser.now)
