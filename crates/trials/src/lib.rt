@@ -1,7 +1,14 @@
-//! Test runs of the finished crates, and the one case that no run can reach.
+//! Test runs of the finished crates, the one case that no run can reach, and what callers know of what they lend.
 #![tactic(auto)]
 
+ghost use Rattle.std.specs.Prelude.{◌≡◌, ◌≤◌, length};
+ghost use Rattle.lists.specs.Contents.{lent, pushed};
+ghost use Rattle.lists.specs.Reading.{contents_of};
+ghost use Rattle.text.specs.Frames.{longest};
 ghost use Rattle.trials.specs.Numbers.{TheLastNumberIsGiven, NoneComesAfterIt, NumbersAreTriedSecond, AnOpeningStartsOver};
+
+use lists::journal::Journal;
+use text::frame::Framer;
 
 #[cfg(test)]
 mod tests;
@@ -13,3 +20,25 @@ pub fn last_number()
     ensures order { NumbersAreTriedSecond }
     ensures anew { AnOpeningStartsOver }
 {}
+
+/// Whoever lends places to a journal knows what they hold once the journal is gone.
+pub fn note_in(places: &mut [u32], entry: u32)
+    ensures { places.new ≡ (pushed (lent places.old) entry).contents.slots }
+{
+    let mut journal = Journal::new(places);
+    let _ = journal.push(entry);
+}
+
+/// How many places were lent to a journal: its entries and its room make them up.
+pub fn places_of(journal: &Journal<u32>) -> usize
+    ensures { result ≡ length (contents_of journal.now).slots }
+{
+    journal.len() + journal.room()
+}
+
+/// How much a framer has kept of a line: it hands out none that is too long.
+pub fn kept_of(framer: &Framer) -> usize
+    ensures { result ≤ longest }
+{
+    framer.line().map_or(0, |line| line.len())
+}

@@ -15,18 +15,19 @@ pub returns-in_default : goal.returns-in_default
 returns-in_default c =
     let n = no_feed c.args.block.now (sym c.find_feed.ensures.place ∙ c.in_default.is) in
     let rest = sym n.1 in
-    let line = c.extend.ensures ∙ ap (fold more c.args.self.now) (sym n.0) in
-    record { rest = rest; less = tt; line = line; hands = handed_on_lem _ _ c.args.block.now _ rest line; holds = holding_on_lem _ _ c.args.block.now _ rest line }
+    let line = c.extend.ensures.line ∙ ap (fold more c.args.self.now) (sym n.0) in
+    record { rest = rest; less = tt; line = line; fits = c.extend.ensures.fits; hands = handed_on_lem _ _ c.args.block.now _ rest line; holds = holding_on_lem _ _ c.args.block.now _ rest line }
 
 pub returns : goal.returns
 returns c =
     let f = feed_at c.args.block.now c.in-Some.i (sym c.find_feed.ensures.place ∙ c.in-Some.is) in
     let rest = ap Some (take_rest c.args.block.now (c.in-Some.i + 1)) ∙ sym f.1 in
-    let line = c.extend-2.ensures ∙ ap (fold more c.args.self.now) (sym f.0) in
+    let line = c.extend-2.ensures.line ∙ ap (fold more c.args.self.now) (sym f.0) in
     record {
       rest = rest;
       less = simp (length-take, length-drop) (omega (arith, c.in-Some.ensures));
       line = line;
+      fits = c.extend-2.ensures.fits;
       hands = handed_on_lem _ _ c.args.block.now _ rest line;
       holds = holding_on_lem _ _ c.args.block.now _ rest line;
     }
