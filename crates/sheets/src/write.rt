@@ -28,6 +28,12 @@ fn width(n: u32) -> usize
     ensures is { result ≡ length (decimal n) }
     ensures few { result ≤ 10 }
 {
+    if n < 10 {
+        return 1;
+    }
+    if n < 100 {
+        return 2;
+    }
     let mut digits = Buffer::new();
     digits.format(n).len()
 }

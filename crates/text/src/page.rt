@@ -1,10 +1,12 @@
 //! Text on a page that the caller lends.
-ghost use Rattle.std.specs.Prelude.{◌≡◌, ◌+◌, ◌≤◌, map, length, IfOk};
+ghost use Rattle.std.specs.Prelude.{◌≡◌, ◌+◌, ◌<◌, ◌≤◌, [], ◌∷◌, map, length, IfOk, decimal};
 ghost use Rattle.text.specs.Fields.{line_of};
 ghost use Rattle.text.specs.declared.page.Field.TheVariants.{Figure};
 ghost use Rattle.text.specs.Pages.{shortest, field_text, gap, Puts, checked, Checked, fault_fields, no_line, fault_line, end_line, answered, page_with};
 
 use crate::fault::Fault;
+use crate::field::TAB;
+use crate::frame::FEED;
 use itoa::Buffer;
 use rules::refusal::Refusal;
 
@@ -36,6 +38,7 @@ struct Writer<'a> {
 
 impl Writer<'_> {
     /// Writes the text.
+    #[inline(always)]
     fn put(&mut self, text: &[u8])
         requires { self.old.at + length text.now ≤ length self.old.page.now }
         ensures text { Puts self.old.page.now self.old.at text.now self.new.page.now self.new.at }
@@ -47,7 +50,66 @@ impl Writer<'_> {
         self.at = end;
     }
 
+    /// Writes a byte.
+    #[inline(always)]
+    fn put_byte(&mut self, byte: u8)
+        requires { self.old.at < length self.old.page.now }
+        ensures text { Puts self.old.page.now self.old.at (byte ∷ []) self.new.page.now self.new.at }
+        ensures same { self.new.page.ghost_name ≡ self.old.page.ghost_name }
+        ensures long { length self.new.page.now ≡ length self.old.page.now }
+    {
+        self.page[self.at] = byte;
+        self.at += 1;
+    }
+
+    /// Writes the digits of a figure of two or more: two at once.
+    #[inline(never)]
+    fn put_long(&mut self, n: u64)
+        requires room { self.old.at + length (decimal n) ≤ length self.old.page.now }
+        requires long { 10 ≤ n }
+        ensures text { Puts self.old.page.now self.old.at (decimal n) self.new.page.now self.new.at }
+        ensures same { self.new.page.ghost_name ≡ self.old.page.ghost_name }
+        ensures long { length self.new.page.now ≡ length self.old.page.now }
+    {
+        if n < 100 {
+            self.put_byte(b'0' + (n / 10) as u8);
+            self.put_byte(b'0' + (n % 10) as u8);
+            return;
+        }
+        let mut digits = Buffer::new();
+        self.put(digits.format(n).as_bytes());
+    }
+
+    /// Writes the digits of a figure: a single one at once.
+    #[inline(always)]
+    fn put_digits(&mut self, n: u64)
+        requires { self.old.at + length (decimal n) ≤ length self.old.page.now }
+        ensures text { Puts self.old.page.now self.old.at (decimal n) self.new.page.now self.new.at }
+        ensures same { self.new.page.ghost_name ≡ self.old.page.ghost_name }
+        ensures long { length self.new.page.now ≡ length self.old.page.now }
+    {
+        if n < 10 {
+            self.put_byte(b'0' + n as u8);
+            return;
+        }
+        self.put_long(n);
+    }
+
+    /// Writes what stands before the field at this place of a line.
+    #[inline(always)]
+    fn put_gap(&mut self, place: usize)
+        requires { self.old.at + length (gap place) ≤ length self.old.page.now }
+        ensures text { Puts self.old.page.now self.old.at (gap place) self.new.page.now self.new.at }
+        ensures same { self.new.page.ghost_name ≡ self.old.page.ghost_name }
+        ensures long { length self.new.page.now ≡ length self.old.page.now }
+    {
+        if place > 0 {
+            self.put_byte(TAB);
+        }
+    }
+
     /// Writes a field.
+    #[inline(always)]
     fn put_field(&mut self, field: Field)
         requires { self.old.at + length (field_text field) ≤ length self.old.page.now }
         ensures text { Puts self.old.page.now self.old.at (field_text field.entry) self.new.page.now self.new.at }
@@ -56,32 +118,23 @@ impl Writer<'_> {
     {
         match field {
             Field::Word(text) => self.put(text),
-            Field::Figure(n) => {
-                let mut digits = Buffer::new();
-                self.put(digits.format(n).as_bytes());
-            }
+            Field::Figure(n) => self.put_digits(n),
         }
     }
 }
 
-/// What stands before the field at this place of a line.
-fn gap_before(place: usize) -> &'static str
-    ensures { result.now ≡ gap place }
-{
-    if place == 0 { "" } else { "\t" }
-}
-
 /// Writes a line: the fields, with a tab between any two, and the line feed.
+#[inline(always)]
 pub fn put_line(page: &mut [u8], at: usize, fields: &[Field]) -> usize
     requires { at + length (line_of (map field_text fields.now)) ≤ length page.old }
     ensures { Puts page.old at (line_of (map field_text fields.now)) page.new result }
 {
     let mut writer = Writer { page, at };
     for (i, field) in fields.iter().enumerate() {
-        writer.put(gap_before(i).as_bytes());
+        writer.put_gap(i);
         writer.put_field(*field);
     }
-    writer.put(b"\n");
+    writer.put_byte(FEED);
     writer.at
 }
 
@@ -97,6 +150,7 @@ pub fn check(page: &[u8]) -> Result<(), Fault>
 }
 
 /// Writes a line from the start of the page on, if the page has room for an answer.
+#[inline(always)]
 fn write_line(page: &mut [u8], fields: &[Field]) -> Result<usize, Fault>
     requires { length (line_of (map field_text fields.now)) ≤ shortest }
     ensures value { result ≡ answered (line_of (map field_text fields.now)) page.old }
@@ -108,6 +162,7 @@ fn write_line(page: &mut [u8], fields: &[Field]) -> Result<usize, Fault>
 }
 
 /// What tells a fault in a line: its layer, its number and its field.
+#[inline(always)]
 fn fault_fields(fault: Fault) -> [Field<'static>; 3]
     ensures fields { map field_text result ≡ fault_fields fault }
     ensures short { length (line_of (fault_fields fault)) ≤ 20 }

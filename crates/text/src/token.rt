@@ -39,6 +39,7 @@ fn figure(text: &[u8]) -> Option<u32>
 
 impl<'a> Token<'a> {
     /// The token of a field: a figure if its text is one, and else a word.
+    #[inline(always)]
     pub fn new(text: &'a [u8], field: u32) -> Token<'a>
         ensures { told_by result ≡ token_of text.now field }
     {
