@@ -1,6 +1,6 @@
 -- One text after another on a page.
-use Rattle.std.proofs.Common.{◌≡◌, ℕ, ◌+◌, ◌^◌, ◌<◌, ◌≤◌, Bool, true, false, cond, eqb, List, [], ◌∷◌, ◌++◌, map, length, get_or, take, drop, decimal, sym, refl, ap, ◌∙◌, append_assoc, arith}
-use Rattle.std.proofs.lemmas.Fmt.{length-decimal-le}
+use Rattle.std.proofs.Common.{◌≡◌, ℕ, ◌+◌, ◌/◌, ◌%◌, ◌^◌, ◌<◌, ◌≤◌, Bool, true, false, cond, eqb, List, [], ◌∷◌, ◌++◌, map, length, get_or, take, drop, decimal, sym, refl, ap, ◌∙◌, append_assoc, arith}
+use Rattle.std.proofs.lemmas.Fmt.{length-decimal-le, decimal_digit, decimal_step}
 use Rattle.std.proofs.lemmas.Bool.{ne_eqb}
 use Rattle.std.proofs.lemmas.List.{drop-drop, length-append, take-append-drop, at_drop_more}
 use Rattle.text.specs.Fields.{tab, tabbed, line_of}
@@ -12,6 +12,10 @@ use Rattle.text.specs.declared.page.Field.{Field}
 use Rattle.text.specs.declared.page.Field.TheVariants as field
 use Rattle.rules.specs.declared.refusal.Refusal.{Refusal}
 use Rattle.rules.specs.Words.{refusal_number}
+
+-- a figure of two digits is both, one after the other
+pub two_digits : (n : ℕ) → 10 ≤ n → n < 100 → decimal n ≡ ((48 + n / 10) ∷ []) ++ ((48 + n % 10) ∷ [])
+two_digits n h l = decimal_step n h (omega arith) ∙ ap (λ ds. ds ++ ((48 + n % 10) ∷ [])) (decimal_digit (n / 10) (omega arith))
 
 pub puts_then : {page mid after : List ℕ} {at next end : ℕ} {text more : List ℕ} → Puts page at text mid next → Puts mid next more after end → Puts page at (text ++ more) after end
 puts_then {page} {mid} {after} {at} {next} {end} {text} {more} p q =

@@ -1,5 +1,5 @@
 -- How an input is cut into lines, and what the framer makes of it, block by block.
-use Rattle.std.specs.Prelude.{◌≡◌, ℕ, Bool, false, cond, List, [], ◌∷◌, ◌++◌, map, length, Some, None, Option, ◌==◌, nat_le}
+use Rattle.std.specs.Prelude.{◌≡◌, ℕ, Bool, false, cond, List, [], ◌∷◌, ◌++◌, map, length, Some, None, Option, ◌==◌, ◌≤◌, nat_le, IfSome}
 use Rattle.std.specs.List.{flat_map}
 
 -- what ends a line, and belongs to it
@@ -27,6 +27,10 @@ Whole = (input : List ℕ) → flat_map (λ line. line) (lines_of input) ≡ inp
 -- what is kept of a line: all of it, if it is not too long
 abbrev pub kept : List ℕ → Option (List ℕ)
 kept line = cond (nat_le (length line) longest) (Some line) None
+
+-- what is kept of a line is no longer than the longest one
+abbrev pub Short : Option (List ℕ) → Type 0
+Short h = IfSome h (λ line. length line ≤ longest)
 
 -- one more byte of a line
 abbrev pub more : Option (List ℕ) → ℕ → Option (List ℕ)

@@ -1,7 +1,7 @@
 //! Input cut into lines, in blocks of any size.
-ghost use Rattle.std.specs.Prelude.{◌≡◌, ◌<◌, ◌≤◌, ◌==◌, [], length, position, IfSome, Some, fold};
+ghost use Rattle.std.specs.Prelude.{◌≡◌, ◌<◌, ◌==◌, [], length, position, IfSome, Some, fold};
 ghost use Rattle.std.specs.Option.{option_map};
-ghost use Rattle.text.specs.Frames.{feed, longest, more, up_to_feed, after_feed, is_new, handed, handed_on, holding, holding_on, Frames, Whole};
+ghost use Rattle.text.specs.Frames.{feed, Short, more, up_to_feed, after_feed, is_new, handed, handed_on, holding, holding_on, Frames, Whole};
 
 use arrayvec::ArrayVec;
 use std::marker::Model;
@@ -53,7 +53,7 @@ impl Framer {
     /// The line as far as it was read, or none if it is too long.
     pub fn line(&self) -> Option<&[u8]>
         ensures line { option_map (λ x. x.now) result ≡ self.now }
-        ensures fits { IfSome self.now (λ line. length line ≤ longest) }
+        ensures fits { Short self.now }
     {
         self.line.as_ref().map(|line| line.as_slice())
     }
@@ -75,7 +75,7 @@ impl Framer {
     /// Reads more bytes of the line.
     fn extend(&mut self, bytes: &[u8])
         ensures line { self.new ≡ fold more self.old bytes.now }
-        ensures fits { IfSome self.new (λ line. length line ≤ longest) }
+        ensures fits { Short self.new }
     {
         if let Some(line) = &mut self.line {
             if line.try_extend_from_slice(bytes).is_err() {
@@ -89,7 +89,7 @@ impl Framer {
         ensures rest { option_map (λ x. x.now) result ≡ after_feed block.now }
         ensures less { IfSome result (λ rest. length rest.now < length block.now) }
         ensures line { self.new ≡ fold more self.old (up_to_feed block.now) }
-        ensures fits { IfSome self.new (λ line. length line ≤ longest) }
+        ensures fits { Short self.new }
         ensures hands { handed self.old block.now ≡ handed_on self.new (option_map (λ x. x.now) result) }
         ensures holds { holding self.old block.now ≡ holding_on self.new (option_map (λ x. x.now) result) }
     {

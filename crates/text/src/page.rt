@@ -29,7 +29,8 @@ impl From<u32> for Field<'_> {
     }
 }
 
-/// A page, and the place from which on it is written.
+/// A page, and the place from which on it is written. What writes a little goes where it is called, so that a line of known fields is
+/// written without a loop; digits that need a buffer stay a call.
 #[derive(Drop)]
 struct Writer<'a> {
     page: &'a mut [u8],

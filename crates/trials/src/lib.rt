@@ -1,7 +1,8 @@
 //! Test runs of the finished crates, the one case that no run can reach, and what callers know of what they lend.
 #![tactic(auto)]
 
-ghost use Rattle.std.specs.Prelude.{◌≡◌, ◌≤◌, length};
+ghost use Rattle.std.specs.Prelude.{◌≡◌, ◌≤◌, length, IfSome};
+ghost use Rattle.std.specs.Option.{option_map};
 ghost use Rattle.lists.specs.Contents.{lent, pushed};
 ghost use Rattle.lists.specs.Reading.{contents_of};
 ghost use Rattle.text.specs.Frames.{longest};
@@ -37,8 +38,9 @@ pub fn places_of(journal: &Journal<u32>) -> usize
 }
 
 /// How much a framer has kept of a line: it hands out none that is too long.
-pub fn kept_of(framer: &Framer) -> usize
-    ensures { result ≤ longest }
+pub fn kept_of(framer: &Framer) -> Option<usize>
+    ensures len { result ≡ option_map length framer.now }
+    ensures fits { IfSome result (λ n. n ≤ longest) }
 {
-    framer.line().map_or(0, |line| line.len())
+    framer.line().map(|line| line.len())
 }
